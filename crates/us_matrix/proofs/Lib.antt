@@ -1,0 +1,4 @@
+pub mod Merge
+pub mod OneMatrixLemmas
+pub mod EntriesOf
+pub mod Search

@@ -1,0 +1,249 @@
+-- A canonical text is read again.
+use Rattle.std.proofs.Common.{◌≡◌, ℕ, suc, ◌+◌, ◌-◌, ◌^◌, ◌<◌, ◌≤◌, ◌==◌, ◌&&◌, ◌||◌, not, nat_lt, nat_le, Bool, true, false, cond, List, [], ◌∷◌, ◌++◌, length, take, drop, map, flat_map, Ok, Err, Result, ℤ, pos, negsuc, FitsSigned, refl, ap, ◌∙◌, arith, append_assoc, length-append}
+use Rattle.std.specs.Prelude.{codes}
+use Rattle.std.specs.Fmt.{decimal, signed_decimal}
+use Rattle.std.specs.Str.Lines.{strip_carriage_return}
+use Rattle.std.specs.List.{list_all, enumerate_from}
+use Rattle.std.proofs.lemmas.Bool.Decides.{nat_tests}
+use Rattle.std.proofs.lemmas.List.{take_all, take_at, drop_at, drop_all, get_or_append_left, get_or_at}
+use Rattle.std.proofs.Math.Seq.{drop-append-add}
+use Rattle.std.specs.Int.{w64}
+use Rattle.us_matrix.specs.declared.matrix.Triple.{Triple}
+use Rattle.us_matrix.specs.Map.{Map, IsSide, IsMatrix, IsEntry, AreEntries, matrix_of}
+use Rattle.us_matrix.proofs.EntriesOf.{matrix_of-entries}
+use Rattle.us_mm.specs.Lines.{lines, kept, is_blank, is_skipped}
+use Rattle.us_mm.specs.Words.{words, size_of, value_of, is_value}
+use Rattle.us_mm.specs.Reads.{◌>>=◌, each, entry_of, entry_words, entry_numbers, sizes_of, size_words, size_numbers, Sizes, Reading, matrix_in, reading_of, read_lines, read_sized, read_entries, no_more, header_of}
+use Rattle.us_mm.specs.declared.fault.MmFault.TheVariants.{SizeLine, EntryLine, Missing, OutOfShape, ValueRange}
+use Rattle.us_mm.specs.declared.fault.MmFault.{MmFault}
+use Rattle.us_mm.specs.Text.{text, line_of, entry_line}
+use Rattle.us_mm.proofs.LineLemmas.{lines_first, lines-nil, kept_line, kept-nil}
+use Rattle.us_mm.proofs.WordLemmas.{words_first, words_blank, words-nil}
+use Rattle.us_mm.proofs.DecimalLemmas.{Clear, clear_append, clear_at, clear_by_test, decimal_clear, decimal_some, signed_clear, signed_some, size_word_decimal, value_word_decimal}
+
+-- a word, a space and what follows
+word_then : (w rest : List ℕ) → 0 < length w → Clear is_blank w → words (w ++ 32 ∷ rest) ≡ w ∷ words rest
+word_then w rest some clear =
+    words_first (w ++ 32 ∷ rest) (length w) some (omega (arith, length-append w (32 ∷ rest)))
+    (λ k lt. ap is_blank (get_or_append_left w (32 ∷ rest) 0 k lt) ∙ clear_at is_blank w k clear lt) (λ lt. ap is_blank (get_or_at w 32 rest 0 (length w) refl))
+    ∙ ap (λ l. l ∷ words (drop (length w) (w ++ 32 ∷ rest))) (take_at w (32 ∷ rest) (length w) refl)
+    ∙ ap (λ l. w ∷ words l) (drop_at w (32 ∷ rest) (length w) refl)
+    ∙ ap (λ ws. w ∷ ws) (words_blank 32 rest refl)
+
+word_last : (w : List ℕ) → 0 < length w → Clear is_blank w → words w ≡ w ∷ []
+word_last w some clear =
+    words_first w (length w) some (omega arith) (λ k lt. clear_at is_blank w k clear lt) (λ lt. absurd (omega arith))
+    ∙ ap (λ l. l ∷ words (drop (length w) w)) (take_all (length w) w (omega arith))
+    ∙ ap (λ l. w ∷ words l) (drop_all (length w) w (omega arith)) ∙ ap (λ ws. w ∷ ws) words-nil
+
+-- a line of three words, without its line feed
+abbrev pub bare : List ℕ → List ℕ → List ℕ → List ℕ
+bare a b c = a ++ 32 ∷ (b ++ 32 ∷ c)
+
+-- a word that stands in a line
+pub record IsWord (w : List ℕ) : Type 0 where
+  pub some : 0 < length w
+  pub blanks : Clear is_blank w
+  pub feeds : Clear (λ b. b == 10) w
+  pub returns : Clear (λ b. b == 13) w
+  pub percents : Clear (λ b. b == 37) w
+
+pub words_bare : (a b c : List ℕ) → IsWord a → IsWord b → IsWord c → words (bare a b c) ≡ a ∷ b ∷ c ∷ []
+words_bare a b c ia ib ic =
+    word_then a (b ++ 32 ∷ c) ia.some ia.blanks ∙ ap (λ ws. a ∷ ws) (word_then b c ib.some ib.blanks ∙ ap (λ ws. b ∷ ws) (word_last c ic.some ic.blanks))
+
+clear_bare : (p : ℕ → Bool) (a b c : List ℕ) → p 32 ≡ false → Clear p a → Clear p b → Clear p c → Clear p (bare a b c)
+clear_bare p a b c space ha hb hc = clear_append p a (32 ∷ (b ++ 32 ∷ c)) ha (space, clear_append p b (32 ∷ c) hb (space, hc))
+
+line_of-bare : (a b c rest : List ℕ) → line_of a b c ++ rest ≡ bare a b c ++ 10 ∷ rest
+line_of-bare a b c rest = simp append_assoc
+
+no_return : (l : List ℕ) → Clear (λ b. b == 13) l → strip_carriage_return l ≡ l
+no_return [] h = refl
+no_return (x ∷ l) h = ap (λ b. cond b (take (length (x ∷ l) - 1) (x ∷ l)) (x ∷ l)) (clear_at (λ b. b == 13) (x ∷ l) (length (x ∷ l) - 1) h (omega arith))
+
+lines_clear : (l rest : List ℕ) → Clear (λ b. b == 10) l → Clear (λ b. b == 13) l → lines (l ++ 10 ∷ rest) ≡ l ∷ lines rest
+lines_clear l rest feeds returns =
+    lines_first (l ++ 10 ∷ rest) (length l) (omega (arith, length-append l (10 ∷ rest)))
+    (λ k lt. ap (λ b. b == 10) (get_or_append_left l (10 ∷ rest) 0 k lt) ∙ clear_at (λ b. b == 10) l k feeds lt) (ap (λ b. b == 10) (get_or_at l 10 rest 0 (length l) refl))
+    ∙ ap (λ x. strip_carriage_return x ∷ lines (drop (length l + 1) (l ++ 10 ∷ rest))) (take_at l (10 ∷ rest) (length l) refl)
+    ∙ ap (λ x. x ∷ lines (drop (length l + 1) (l ++ 10 ∷ rest))) (no_return l returns)
+    ∙ ap (λ x. l ∷ lines x) (drop-append-add l (10 ∷ rest) 1)
+
+not_skipped : (a rest : List ℕ) → IsWord a → is_skipped (a ++ rest) ≡ false
+not_skipped [] rest w = absurd (omega (arith, w.some))
+not_skipped (x ∷ a) rest w = ap (λ b. b || (is_blank x && list_all is_blank (a ++ rest))) w.percents.0 ∙ ap (λ b. b && list_all is_blank (a ++ rest)) w.blanks.0
+
+digit_blank : (c : ℕ) → 48 ≤ c → c ≤ 57 → is_blank c ≡ false
+digit_blank c lo hi = grind (arith, nat_tests)
+
+digit_feed : (c : ℕ) → 48 ≤ c → c ≤ 57 → (c == 10) ≡ false
+digit_feed c lo hi = grind (arith, nat_tests)
+
+digit_return : (c : ℕ) → 48 ≤ c → c ≤ 57 → (c == 13) ≡ false
+digit_return c lo hi = grind (arith, nat_tests)
+
+digit_percent : (c : ℕ) → 48 ≤ c → c ≤ 57 → (c == 37) ≡ false
+digit_percent c lo hi = grind (arith, nat_tests)
+
+decimal_word : (n : ℕ) → n < 2 ^ 64 → IsWord (decimal n)
+decimal_word n h = record {
+  some = decimal_some n h;
+  blanks = decimal_clear is_blank digit_blank n h;
+  feeds = decimal_clear (λ b. b == 10) digit_feed n h;
+  returns = decimal_clear (λ b. b == 13) digit_return n h;
+  percents = decimal_clear (λ b. b == 37) digit_percent n h;
+}
+
+signed_word : (v : ℤ) → FitsSigned w64 v → IsWord (signed_decimal v)
+signed_word v f = record {
+  some = signed_some v f;
+  blanks = signed_clear is_blank digit_blank refl v f;
+  feeds = signed_clear (λ b. b == 10) digit_feed refl v f;
+  returns = signed_clear (λ b. b == 13) digit_return refl v f;
+  percents = signed_clear (λ b. b == 37) digit_percent refl v f;
+}
+
+abbrev pub entry_bare : Triple → List ℕ
+entry_bare t = bare (decimal (t.i + 1)) (decimal (t.j + 1)) (signed_decimal t.v)
+
+three_true : (a b c : Bool) → a ≡ true → b ≡ true → c ≡ true → ((a && b) && c) ≡ true
+three_true a b c p q r = rw (p, q, r) refl
+
+inside_true : (i j rows cols : ℕ) → i < rows → j < cols → (nat_le 1 (i + 1) && nat_le (i + 1) rows && (nat_le 1 (j + 1) && nat_le (j + 1) cols)) ≡ true
+inside_true i j rows cols row col = grind (arith, nat_tests)
+
+numbers_read : (n rows cols : ℕ) (t : Triple) → t.i < rows → t.j < cols → is_value t.v ≡ true → entry_numbers n rows cols (t.i + 1) (t.j + 1) t.v ≡ Ok t
+numbers_read n rows cols t row col fits =
+    let first : t.i + 1 - 1 ≡ t.i = omega arith in
+    let second : t.j + 1 - 1 ≡ t.j = omega arith in
+    ap (λ b. cond (not b) (Err (OutOfShape n)) (cond (not (is_value t.v)) (Err (ValueRange n)) (Ok (record { i = t.i + 1 - 1; j = t.j + 1 - 1; v = t.v })))) (inside_true t.i t.j rows cols row col)
+    ∙ ap (λ b. cond (not b) (Err (ValueRange n)) (Ok (record { i = t.i + 1 - 1; j = t.j + 1 - 1; v = t.v }))) fits
+    ∙ ap (λ x. Ok (record { i = x; j = t.j + 1 - 1; v = t.v })) first ∙ ap (λ x. Ok (record { i = t.i; j = x; v = t.v })) second
+
+test_true : (a b : ℕ) → a < b → nat_lt a b ≡ true
+test_true a b h = grind (arith, nat_tests)
+
+value_fits : (v : ℤ) → FitsSigned w64 v → is_value v ≡ true
+value_fits (pos n) f = let lt : n < 2 ^ 63 = omega (arith, f.sfits) in test_true n (2 ^ 63) lt
+value_fits (negsuc n) f = let lt : n < 2 ^ 63 = omega (arith, f.sfits) in test_true n (2 ^ 63) lt
+
+entry_read : (n rows cols : ℕ) (t : Triple) → rows < 2 ^ 31 → cols < 2 ^ 31 → IsEntry rows cols t → entry_of rows cols (n, entry_bare t) ≡ Ok t
+unfolding entry_of
+entry_read n rows cols t rs cs e =
+    let row : t.i < rows = e.row in
+    let col : t.j < cols = e.col in
+    let si : t.i + 1 < 2 ^ 64 = omega arith in
+    let sj : t.j + 1 < 2 ^ 64 = omega arith in
+    let wi = size_word_decimal (t.i + 1) si in
+    let wj = size_word_decimal (t.j + 1) sj in
+    let wv = value_word_decimal t.v e.fits in
+    ap (entry_words n rows cols) (words_bare _ _ _ (decimal_word (t.i + 1) si) (decimal_word (t.j + 1) sj) (signed_word t.v e.fits))
+    ∙ ap (λ b. cond b (entry_numbers n rows cols (size_of (decimal (t.i + 1))) (size_of (decimal (t.j + 1))) (value_of (signed_decimal t.v))) (Err (EntryLine n))) (three_true _ _ _ wi.0 wj.0 wv.0)
+    ∙ ap (λ x. entry_numbers n rows cols x (size_of (decimal (t.j + 1))) (value_of (signed_decimal t.v))) wi.1
+    ∙ ap (λ x. entry_numbers n rows cols (t.i + 1) x (value_of (signed_decimal t.v))) wj.1
+    ∙ ap (entry_numbers n rows cols (t.i + 1) (t.j + 1)) wv.1
+    ∙ numbers_read n rows cols t row col (value_fits t.v e.fits)
+
+each_read : (n rows cols : ℕ) (ts : List Triple) → rows < 2 ^ 31 → cols < 2 ^ 31 → AreEntries rows cols ts → each (entry_of rows cols) (enumerate_from n (map entry_bare ts)) ≡ Ok ts
+each_read n rows cols [] rs cs e = refl
+each_read n rows cols (t ∷ ts) rs cs e =
+    ap (λ r. r >>= λ y. each (entry_of rows cols) (enumerate_from (n + 1) (map entry_bare ts)) >>= λ ys. Ok (y ∷ ys)) (entry_read n rows cols t rs cs e.0)
+    ∙ ap (λ r. r >>= λ ys. Ok (t ∷ ys)) (each_read (n + 1) rows cols ts rs cs e.1)
+
+lines_entries : (rows cols : ℕ) (ts : List Triple) → rows < 2 ^ 31 → cols < 2 ^ 31 → AreEntries rows cols ts → lines (flat_map entry_line ts) ≡ map entry_bare ts
+lines_entries rows cols [] rs cs e = lines-nil
+lines_entries rows cols (t ∷ ts) rs cs e =
+    let row : t.i < rows = e.0.row in
+    let col : t.j < cols = e.0.col in
+    let a = decimal_word (t.i + 1) (omega arith) in
+    let b = decimal_word (t.j + 1) (omega arith) in
+    let c = signed_word t.v e.0.fits in
+    ap lines (line_of-bare (decimal (t.i + 1)) (decimal (t.j + 1)) (signed_decimal t.v) (flat_map entry_line ts))
+    ∙ lines_clear (entry_bare t) (flat_map entry_line ts) (clear_bare (λ b. b == 10) _ _ _ refl a.feeds b.feeds c.feeds) (clear_bare (λ b. b == 13) _ _ _ refl a.returns b.returns c.returns)
+    ∙ ap (λ ls. entry_bare t ∷ ls) (lines_entries rows cols ts rs cs e.1)
+
+kept_entries : (n rows cols : ℕ) (ts : List Triple) → rows < 2 ^ 31 → cols < 2 ^ 31 → AreEntries rows cols ts → kept n (map entry_bare ts) ≡ enumerate_from n (map entry_bare ts)
+kept_entries n rows cols [] rs cs e = kept-nil n
+kept_entries n rows cols (t ∷ ts) rs cs e =
+    let row : t.i < rows = e.0.row in
+    kept_line n (entry_bare t) (map entry_bare ts) (not_skipped (decimal (t.i + 1)) (32 ∷ (decimal (t.j + 1) ++ 32 ∷ signed_decimal t.v)) (decimal_word (t.i + 1) (omega arith)))
+    ∙ ap (λ ls. (n, entry_bare t) ∷ ls) (kept_entries (n + 1) rows cols ts rs cs e.1)
+
+sizes_pass : (n rows cols count : ℕ) → IsSide rows → IsSide cols → count ≤ 8388608 → size_numbers n rows cols count ≡ Ok (record { rows = rows; cols = cols; count = count })
+sizes_pass n rows cols count r c le =
+    let low_r : 1 ≤ rows = r.low in
+    let high_r : rows < 2 ^ 31 = r.high in
+    let low_c : 1 ≤ cols = c.low in
+    let high_c : cols < 2 ^ 31 = c.high in
+    grind (arith, nat_tests)
+
+sizes_read : (n rows cols count : ℕ) → IsSide rows → IsSide cols → count ≤ 8388608 → sizes_of (n, bare (decimal rows) (decimal cols) (decimal count)) ≡ Ok (record { rows = rows; cols = cols; count = count })
+unfolding sizes_of
+sizes_read n rows cols count r c le =
+    let sr : rows < 2 ^ 64 = omega (arith, r.high) in
+    let sc : cols < 2 ^ 64 = omega (arith, c.high) in
+    let sn : count < 2 ^ 64 = omega arith in
+    let wr = size_word_decimal rows sr in
+    let wc = size_word_decimal cols sc in
+    let wn = size_word_decimal count sn in
+    ap (size_words n) (words_bare _ _ _ (decimal_word rows sr) (decimal_word cols sc) (decimal_word count sn))
+    ∙ ap (λ b. cond b (size_numbers n (size_of (decimal rows)) (size_of (decimal cols)) (size_of (decimal count))) (Err (SizeLine n))) (three_true _ _ _ wr.0 wc.0 wn.0)
+    ∙ ap (λ x. size_numbers n x (size_of (decimal cols)) (size_of (decimal count))) wr.1
+    ∙ ap (λ x. size_numbers n rows x (size_of (decimal count))) wc.1
+    ∙ ap (size_numbers n rows cols) wn.1
+    ∙ sizes_pass n rows cols count r c le
+
+length-numbered : (n : ℕ) (ts : List Triple) → length (enumerate_from n (map entry_bare ts)) ≡ length ts
+length-numbered n [] = refl
+length-numbered n (t ∷ ts) = ap suc (length-numbered (n + 1) ts)
+
+not_short : (a b : ℕ) → a ≡ b → nat_lt a b ≡ false
+not_short a b h = grind (arith, nat_tests)
+
+entries_read : (n rows cols : ℕ) (ts : List Triple) → rows < 2 ^ 31 → cols < 2 ^ 31 → AreEntries rows cols ts
+    → read_entries (enumerate_from n (map entry_bare ts)) (record { rows = rows; cols = cols; count = length ts }) ≡ Ok (record { rows = rows; cols = cols; triples = ts })
+unfolding read_entries
+entries_read n rows cols ts rs cs e =
+    let ls = enumerate_from n (map entry_bare ts) in
+    let len : length ls ≡ length ts = length-numbered n ts in
+    let s : Sizes = record { rows = rows; cols = cols; count = length ts } in
+    let rest : List Triple → Result Reading MmFault = λ us. cond (nat_lt (length ls) (length ts)) (Err (Missing (length ls) (length ts))) (no_more (drop (length ts) ls) us s) in
+    ap (λ l. each (entry_of rows cols) l >>= rest) (take_all (length ts) ls (omega arith))
+    ∙ ap (λ r. r >>= rest) (each_read n rows cols ts rs cs e)
+    ∙ ap (λ b. cond b (Err (Missing (length ls) (length ts))) (no_more (drop (length ts) ls) ts s)) (not_short _ _ len)
+    ∙ ap (λ l. no_more l ts s) (drop_all (length ts) ls (omega arith))
+
+abbrev banner : List ℕ
+banner = codes "%%MatrixMarket matrix coordinate integer general"
+
+header_read : header_of banner ≡ Ok tt
+unfolding header_of words
+header_read = refl
+
+text_lines : (m : Map) → IsMatrix m → length m.entries ≤ 8388608 → lines (text m) ≡ banner ∷ bare (decimal m.rows) (decimal m.cols) (decimal (length m.entries)) ∷ map entry_bare m.entries
+unfolding text
+text_lines m im le =
+    let a = decimal_word m.rows (omega (arith, im.rows.high)) in
+    let b = decimal_word m.cols (omega (arith, im.cols.high)) in
+    let c = decimal_word (length m.entries) (omega arith) in
+    lines_clear banner (line_of (decimal m.rows) (decimal m.cols) (decimal (length m.entries)) ++ flat_map entry_line m.entries) (clear_by_test (λ b. b == 10) banner refl) (clear_by_test (λ b. b == 13) banner refl)
+    ∙ ap (λ ls. banner ∷ ls) (ap lines (line_of-bare (decimal m.rows) (decimal m.cols) (decimal (length m.entries)) (flat_map entry_line m.entries))
+    ∙ lines_clear (bare (decimal m.rows) (decimal m.cols) (decimal (length m.entries))) (flat_map entry_line m.entries) (clear_bare (λ b. b == 10) _ _ _ refl a.feeds b.feeds c.feeds) (clear_bare (λ b. b == 13) _ _ _ refl a.returns b.returns c.returns)
+    ∙ ap (λ ls. bare (decimal m.rows) (decimal m.cols) (decimal (length m.entries)) ∷ ls) (lines_entries m.rows m.cols m.entries im.rows.high im.cols.high im.entries))
+
+text_read : (m : Map) → IsMatrix m → length m.entries ≤ 8388608 → reading_of (text m) ≡ Ok (record { rows = m.rows; cols = m.cols; triples = m.entries })
+unfolding reading_of
+text_read m im le =
+    let size = bare (decimal m.rows) (decimal m.cols) (decimal (length m.entries)) in
+    let body = size ∷ map entry_bare m.entries in
+    let skip = not_skipped (decimal m.rows) (32 ∷ (decimal m.cols ++ 32 ∷ decimal (length m.entries))) (decimal_word m.rows (omega (arith, im.rows.high))) in
+    ap read_lines (text_lines m im le)
+    ∙ ap (λ r. r >>= λ _. read_sized (length body + 1) (kept 2 body)) header_read
+    ∙ ap (read_sized (length body + 1)) (kept_line 2 size (map entry_bare m.entries) skip ∙ ap (λ ls. (2, size) ∷ ls) (kept_entries 3 m.rows m.cols m.entries im.rows.high im.cols.high im.entries))
+    ∙ ap (λ r. r >>= read_entries (enumerate_from 3 (map entry_bare m.entries))) (sizes_read 2 m.rows m.cols (length m.entries) im.rows im.cols le)
+    ∙ entries_read 3 m.rows m.cols m.entries im.rows.high im.cols.high im.entries
+
+pub text_reads : (m : Map) → IsMatrix m → length m.entries ≤ 8388608 → matrix_in (text m) ≡ Ok m
+text_reads m im le =
+    ap (λ r. r >>= λ x. Ok (matrix_of x.rows x.cols x.triples)) (text_read m im le) ∙ ap Ok (matrix_of-entries m im)

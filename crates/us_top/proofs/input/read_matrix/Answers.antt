@@ -1,0 +1,18 @@
+use Rattle.std.proofs.Common.{Err, sym, ap, ◌∙◌}
+use Rattle.std.proofs.lemmas.Option.{IfSome_then}
+use Rattle.us_top.specs.Outcome.{matrix_at}
+use Rattle.us_top.proofs.InputLemmas.{too_long, is_read, refused_at}
+use Rattle.us_top.proofs.input.read_matrix.Goals as goal
+
+pub returns-in-Err-TooLong-clause-plain : goal.returns-in-Err-TooLong-clause-plain
+returns-in-Err-TooLong-clause-plain g c =
+    IfSome_then (g.O.Outside.files c.args.outside.now) (c.in-Err-TooLong.ensures.long (ap Err c.in-Err-TooLong.field-0-is)) (λ fs long. too_long c.args.slot _ long)
+
+pub returns-in-Ok-read_coordinate-clause-plain : goal.returns-in-Ok-read_coordinate-clause-plain
+returns-in-Ok-read_coordinate-clause-plain g c =
+    IfSome_then (g.O.Outside.files c.args.outside.now) c.in-Ok.ensures.bytes (λ fs e. ap (matrix_at c.args.slot) (sym e) ∙ is_read c.args.slot c.in-Ok.bytes.items _ c.in-Ok.ensures.short (rw c.deref.ensures.value at c.in-Ok-read_coordinate.ensures))
+
+pub returns-clause-plain : goal.returns-clause-plain
+returns-clause-plain g c =
+    IfSome_then (g.O.Outside.files c.args.outside.now) c.in-Ok.ensures.bytes
+    (λ fs e. refused_at c.args.slot c.in-Err.fault c.in-Ok.bytes.items _ _ e c.refusal.ensures c.in-Ok.ensures.short (rw c.deref.ensures.value at c.in-Err.ensures))

@@ -1,0 +1,67 @@
+-- Which answers a run may give, and why.
+use Rattle.std.specs.Prelude.{◌≡◌, ℕ, ◌⊎◌, List, [], ◌∷◌, Result, Ok, Err}
+use Rattle.us_mm.specs.declared.fault.MmFault.{MmFault}
+use Rattle.us_mm.specs.declared.fault.MmFault.TheVariants as mm
+use Rattle.us_outside.specs.Causes.{Faults, Rose}
+use Rattle.us_outside.specs.declared.outside.Call.TheVariants.{Fetch}
+use Rattle.us_top.specs.declared.status.Slot.{Slot}
+use Rattle.us_top.specs.declared.status.Status.{Status}
+use Rattle.us_top.specs.declared.status.Status.TheVariants.{Done, Matrix, TooLong, ReadFault, WriteFault, Memory}
+use Rattle.us_top.specs.Commands.{Use}
+
+-- An answer is the plain one, or want of memory, or a fault of the outside. Of these, a failed write comes only where the
+-- plain answer is `Done`, since all stores come last.
+abbrev pub IsAnswer : Status → Status → Type 0
+IsAnswer plain Memory = Unit {0}
+IsAnswer plain (ReadFault slot) = Unit {0}
+IsAnswer plain (WriteFault slot) = plain ≡ Done
+IsAnswer plain answer = answer ≡ plain
+
+abbrev pub IsPlainOrMemory : Status → Status → Type 0
+IsPlainOrMemory plain answer = (answer ≡ plain) ⊎ (answer ≡ Memory)
+
+-- ---- causes of faults
+
+-- the count of faults of this call and file rose
+abbrev pub RoseAt : Faults → Faults → Use → Type 0
+RoseAt before now u = Rose (before u.call u.name) (now u.call u.name)
+
+abbrev pub SomeUse : (Use → Type 0) → List Use → Type 0
+SomeUse P [] = ⊥
+SomeUse P (u ∷ us) = P u ⊎ SomeUse P us
+
+abbrev pub EachUse : (Use → Type 0) → List Use → Type 0
+EachUse P [] = Unit {0}
+EachUse P (u ∷ us) = P u × EachUse P us
+
+-- `ReadFault` comes only where a fetch of that slot failed, `WriteFault` only where a store or print of it did
+abbrev pub IsCaused : List Use → Faults → Faults → Status → Type 0
+IsCaused uses before now (ReadFault slot) = SomeUse (λ u. (u.slot ≡ slot) × (u.call ≡ Fetch) × RoseAt before now u) uses
+IsCaused uses before now (WriteFault slot) = SomeUse (λ u. (u.slot ≡ slot) × (u.call ≡ Fetch → ⊥) × RoseAt before now u) uses
+IsCaused uses before now answer = Unit {0}
+
+-- no count of a call that the command may make rose
+abbrev pub NoneRose : List Use → Faults → Faults → Type 0
+NoneRose uses before now = EachUse (λ u. RoseAt before now u → ⊥) uses
+
+-- ---- a step of a command
+
+-- a step gives what the plain step gives, or memory ran out, or a fetch failed
+abbrev pub IsStep : {A : Type 0} → Result A Status → Result A Status → Type 0
+IsStep plain (Ok x) = plain ≡ Ok x
+IsStep plain (Err Memory) = Unit {0}
+IsStep plain (Err (ReadFault slot)) = Unit {0}
+IsStep plain (Err status) = plain ≡ Err status
+
+-- the answer to a fault of the reader of matrix files
+abbrev pub refusal_of : Slot → MmFault → Status
+refusal_of slot mm.Memory = Memory
+refusal_of slot fault = Matrix slot fault
+
+-- the answers to a file that isn't read
+abbrev pub IsReadRefusal : Slot → List ℕ → Faults → Faults → Status → Type 0
+IsReadRefusal slot name before now (Matrix s fault) = s ≡ slot
+IsReadRefusal slot name before now (TooLong s) = s ≡ slot
+IsReadRefusal slot name before now (ReadFault s) = (s ≡ slot) × Rose (before Fetch name) (now Fetch name)
+IsReadRefusal slot name before now Memory = Unit {0}
+IsReadRefusal slot name before now _ = ⊥

@@ -1,0 +1,6 @@
+pub mod Commands
+pub mod Outcome
+pub mod Answers
+pub mod Stands
+pub mod Lines
+pub mod Views

@@ -1,0 +1,54 @@
+-- The number and the line of each answer.
+use Rattle.std.specs.Prelude.{ℕ, List, ◌++◌, codes}
+use Rattle.std.specs.Fmt.{decimal}
+use Rattle.us_mm.specs.declared.fault.MmFault.{MmFault}
+use Rattle.us_mm.specs.declared.fault.MmFault.TheVariants as mm
+use Rattle.us_top.specs.declared.status.Slot.{Slot}
+use Rattle.us_top.specs.declared.status.Slot.TheVariants.{Formats, Input, Operand, Code, Output, Listing, Print}
+use Rattle.us_top.specs.declared.status.Status.{Status}
+use Rattle.us_top.specs.declared.status.Status.TheVariants.{Done, Words, Matrix, TooLong, ReadFault, WriteFault, Memory}
+
+-- the word of a slot
+abbrev pub slot_word : Slot → List ℕ
+slot_word Formats = codes "FORMATS"
+slot_word Input = codes "IN"
+slot_word Operand = codes "X"
+slot_word Code = codes "CODE"
+slot_word Output = codes "OUT"
+slot_word Listing = codes "LISTING"
+slot_word Print = codes "PRINT"
+
+-- what is said of a fault of a matrix file
+abbrev pub fault_text : MmFault → List ℕ
+fault_text mm.Header = codes "header"
+fault_text (mm.Unsupported word) = codes "unsupported word " ++ decimal word
+fault_text (mm.SizeLine line) = codes "size line " ++ decimal line
+fault_text (mm.Shape line) = codes "shape line " ++ decimal line
+fault_text (mm.TooManyEntries count) = codes "too many entries " ++ decimal count
+fault_text (mm.EntryLine line) = codes "entry line " ++ decimal line
+fault_text (mm.OutOfShape line) = codes "out of shape line " ++ decimal line
+fault_text (mm.ValueRange line) = codes "value range line " ++ decimal line
+fault_text (mm.Triangle line) = codes "triangle line " ++ decimal line
+fault_text (mm.Missing found wanted) = codes "missing " ++ decimal found ++ codes " of " ++ decimal wanted
+fault_text (mm.Extra line) = codes "extra line " ++ decimal line
+fault_text mm.Memory = codes "memory"
+
+-- the line that tells an answer, without its line feed
+abbrev pub status_line : Status → List ℕ
+status_line Done = codes "ok"
+status_line Words = codes "words"
+status_line (Matrix slot fault) = codes "matrix " ++ slot_word slot ++ codes " " ++ fault_text fault
+status_line (ReadFault slot) = codes "read fault " ++ slot_word slot
+status_line (WriteFault slot) = codes "write fault " ++ slot_word slot
+status_line (TooLong slot) = codes "too long " ++ slot_word slot
+status_line Memory = codes "memory"
+
+-- the number with which the program ends
+abbrev pub code_of : Status → ℕ
+code_of Done = 0
+code_of Words = 1
+code_of (Matrix slot fault) = 2
+code_of (ReadFault slot) = 12
+code_of (WriteFault slot) = 13
+code_of (TooLong slot) = 14
+code_of Memory = 15
