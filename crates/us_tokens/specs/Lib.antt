@@ -1,0 +1,6 @@
+pub mod Text
+pub mod Lex
+pub mod Front
+pub mod Cursor
+pub mod Reading
+pub mod Places
