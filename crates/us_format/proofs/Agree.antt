@@ -1,4 +1,5 @@
 -- Two entries with the same coordinates at some levels have the same value at each known expression.
+use Rattle.std.specs.Prelude.{slice_get}
 use Rattle.std.proofs.Common.{◌≡◌, ℕ, suc, ◌+◌, ◌<◌, ◌⊎◌, List, [], ◌∷◌, map, length, take, true, ◌&&◌, ℤ, pos, negsuc, ◌+ℤ◌, ◌-ℤ◌, ◌≤ℤ◌, sym, refl, ap, ap₂, ◌∙◌, subst, inl, inr, arith, Some}
 use Rattle.std.proofs.lemmas.Int.{ints}
 use Rattle.std.proofs.lemmas.Bool.{and_parts, or_cases, false≢true}
@@ -17,7 +18,7 @@ use Rattle.us_format.specs.Coordinates.{coordinate, level_range, span, variable_
 use Rattle.us_format.specs.Declaration.{Enumerate, Part, Query, Reorder, Schedule, SumOf, index_of, axis_of}
 use Rattle.us_format.specs.Kinds.{knows_enumerate, tells}
 use Rattle.us_format.specs.Known.{expressions, is_known}
-use Rattle.us_format.specs.Lists.{item_at, nat_of}
+use Rattle.us_format.specs.Lists.{nat_of}
 use Rattle.us_format.specs.Matrix.{Entry, Shape, index_at}
 use Rattle.us_format.specs.Queries.{extents_of, variables_at}
 
@@ -27,9 +28,9 @@ module _ (m : List Entry) (s : Shape) (p : Part) where
 
   -- what the queries say of two entries
   pub record Tellers (x y : Entry) : Type 0 where
-    pub order : (q w : ℕ) (t : Tree) → item_at p.queries q ≡ Some (Reorder w t) → Agree x y (Variable w) → index_at (axis_of t) x ≡ index_at (axis_of t) y
-    pub rows : (q v w : ℕ) (t : Tree) (n : ℕ) → item_at p.queries q ≡ Some (Schedule v w t n) → Agree x y (Variable v) → Agree x y (Variable w) → index_at (axis_of t) x ≡ index_at (axis_of t) y
-    pub enumerate : (q w : ℕ) (e : Tree) → item_at p.queries q ≡ Some (Enumerate w e) → Agree x y (Variable w) → Agree x y e → x ≡ y
+    pub order : (q w : ℕ) (t : Tree) → slice_get p.queries q ≡ Some (Reorder w t) → Agree x y (Variable w) → index_at (axis_of t) x ≡ index_at (axis_of t) y
+    pub rows : (q v w : ℕ) (t : Tree) (n : ℕ) → slice_get p.queries q ≡ Some (Schedule v w t n) → Agree x y (Variable v) → Agree x y (Variable w) → index_at (axis_of t) x ≡ index_at (axis_of t) y
+    pub enumerate : (q w : ℕ) (e : Tree) → slice_get p.queries q ≡ Some (Enumerate w e) → Agree x y (Variable w) → Agree x y e → x ≡ y
 
   abbrev pub es : List Tree
   es = expressions p.levels p.queries
@@ -133,19 +134,19 @@ module _ (m : List Entry) (s : Shape) (p : Part) where
   pos-same a b h = cc
 
   pub enumerate-tells : Sound → (x y : Entry) → Mem x m → Mem y m → (k : ℕ) → map (coordinate m s p x) (take k p.levels) ≡ map (coordinate m s p y) (take k p.levels)
-      → (n : ℕ) (qs : List Query) → ((j : ℕ) → item_at qs j ≡ item_at p.queries (n + j)) → knows_enumerate p k qs ≡ true → x ≡ y
+      → (n : ℕ) (qs : List Query) → ((j : ℕ) → slice_get qs j ≡ slice_get p.queries (n + j)) → knows_enumerate p k qs ≡ true → x ≡ y
   enumerate-tells so x y mx my k h n [] at e = absurd (false≢true e)
   enumerate-tells so x y mx my k h n (Enumerate v a ∷ qs) at e =
-      go (or_cases _ _ e) (enumerate-tells so x y mx my k h (suc n) qs (λ j. at (suc j) ∙ ap (item_at p.queries) (omega arith)))
+      go (or_cases _ _ e) (enumerate-tells so x y mx my k h (suc n) qs (λ j. at (suc j) ∙ ap (slice_get p.queries) (omega arith)))
     where
       go : (((is_known p.levels p.queries k (Variable v) && is_known p.levels p.queries k a) ≡ true) ⊎ (knows_enumerate p k qs ≡ true)) → (knows_enumerate p k qs ≡ true → x ≡ y) → x ≡ y
       go (inl t) ih =
-          (so.tellers x y mx my).enumerate n v a (sym (at 0 ∙ ap (item_at p.queries) (omega arith)))
+          (so.tellers x y mx my).enumerate n v a (sym (at 0 ∙ ap (slice_get p.queries) (omega arith)))
           (known-agree so x y mx my k h (Variable v) (and_parts _ _ t).0) (known-agree so x y mx my k h a (and_parts _ _ t).1)
       go (inr t) ih = ih t
-  enumerate-tells so x y mx my k h n (SumOf v a ∷ qs) at e = enumerate-tells so x y mx my k h (suc n) qs (λ j. at (suc j) ∙ ap (item_at p.queries) (omega arith)) e
-  enumerate-tells so x y mx my k h n (Reorder v a ∷ qs) at e = enumerate-tells so x y mx my k h (suc n) qs (λ j. at (suc j) ∙ ap (item_at p.queries) (omega arith)) e
-  enumerate-tells so x y mx my k h n (Schedule v w a b ∷ qs) at e = enumerate-tells so x y mx my k h (suc n) qs (λ j. at (suc j) ∙ ap (item_at p.queries) (omega arith)) e
+  enumerate-tells so x y mx my k h n (SumOf v a ∷ qs) at e = enumerate-tells so x y mx my k h (suc n) qs (λ j. at (suc j) ∙ ap (slice_get p.queries) (omega arith)) e
+  enumerate-tells so x y mx my k h n (Reorder v a ∷ qs) at e = enumerate-tells so x y mx my k h (suc n) qs (λ j. at (suc j) ∙ ap (slice_get p.queries) (omega arith)) e
+  enumerate-tells so x y mx my k h n (Schedule v w a b ∷ qs) at e = enumerate-tells so x y mx my k h (suc n) qs (λ j. at (suc j) ∙ ap (slice_get p.queries) (omega arith)) e
 
   -- levels that make the indices known, or an enumerate variable and its argument, tell the entry
   pub tells-entry : Sound → (x y : Entry) → Mem x m → Mem y m → (k : ℕ) → tells p k ≡ true → map (coordinate m s p x) (take k p.levels) ≡ map (coordinate m s p y) (take k p.levels) → x ≡ y
@@ -154,7 +155,7 @@ module _ (m : List Entry) (s : Shape) (p : Part) where
       go : (((is_known p.levels p.queries k RowIndex && is_known p.levels p.queries k ColIndex) ≡ true) ⊎ (knows_enumerate p k p.queries ≡ true)) → x ≡ y
       go (inl u) =
           so.apart x y mx my (pos-same x.i y.i (known-agree so x y mx my k h RowIndex (and_parts _ _ u).0)) (pos-same x.j y.j (known-agree so x y mx my k h ColIndex (and_parts _ _ u).1))
-      go (inr u) = enumerate-tells so x y mx my k h 0 p.queries (λ j. ap (item_at p.queries) (omega arith)) u
+      go (inr u) = enumerate-tells so x y mx my k h 0 p.queries (λ j. ap (slice_get p.queries) (omega arith)) u
 
   -- all coordinates tell the entry
   pub all-tell : Sound → (x y : Entry) → Mem x m → Mem y m → map (coordinate m s p x) (take (length p.levels) p.levels) ≡ map (coordinate m s p y) (take (length p.levels) p.levels) → x ≡ y

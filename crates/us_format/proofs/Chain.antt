@@ -1,4 +1,5 @@
 -- Each step is justified by the steps before it.
+use Rattle.std.specs.Prelude.{slice_get}
 use Rattle.std.proofs.Common.{◌≡◌, ℕ, zero, suc, ◌+◌, ◌⊎◌, List, [], ◌∷◌, ◌++◌, length, take, Bool, true, false, cond, sym, refl, ap, ◌∙◌, subst, inl, inr, Option, Some, None, append_assoc, append-nil, arith}
 use Rattle.us_format.proofs.Trees.{same_tree-true}
 use Rattle.us_format.proofs.Order.{Mem}
@@ -6,12 +7,12 @@ use Rattle.us_format.proofs.Rules.{Justified, Fine, fine-rule}
 use Rattle.us_expr.specs.Tree.{Number, Tree}
 use Rattle.us_format.specs.Declaration.{Query}
 use Rattle.us_format.specs.Known.{Give, Itself, OfLevel, Steps, at_start, expressions, given_steps, has, known_of, level_of, one_pass, passes, rule, same_tree, start, step_for, with_step}
-use Rattle.us_format.specs.Lists.{item_at, then_do}
+use Rattle.us_format.specs.Lists.{then_do}
 
 -- what stands at the start: a constant, or a level
 abbrev pub Starts : List Tree → Tree → Give → Type 0
 Starts given e (Itself c) = e ≡ Number c
-Starts given e (OfLevel k) = item_at given k ≡ Some e
+Starts given e (OfLevel k) = slice_get given k ≡ Some e
 Starts given e _ = ⊥
 
 abbrev pub StepOk : List Query → List Tree → List Tree → Tree → Give → Type 0
@@ -47,18 +48,18 @@ pub chain-passes : (V : Tree → Type 0) (n : ℕ) (es : List Tree) (qs : List Q
 chain-passes V zero es qs given steps v c = c
 chain-passes V (suc n) es qs given steps v c = chain-passes V n es qs given (one_pass es qs es steps) v (chain-pass V es qs given es steps v c)
 
-pub level_of-at : (k : ℕ) (all given : List Tree) (e : Tree) (m : ℕ) → ((j : ℕ) → item_at given j ≡ item_at all (k + j)) → level_of k given e ≡ Some m → item_at all m ≡ Some e
+pub level_of-at : (k : ℕ) (all given : List Tree) (e : Tree) (m : ℕ) → ((j : ℕ) → slice_get given j ≡ slice_get all (k + j)) → level_of k given e ≡ Some m → slice_get all m ≡ Some e
 level_of-at k all [] e m at h = absurd (cc)
-level_of-at k all (l ∷ given) e m at h = go (same_tree l e) refl h (level_of-at (suc k) all given e m (λ j. at (suc j) ∙ ap (item_at all) (omega arith)))
+level_of-at k all (l ∷ given) e m at h = go (same_tree l e) refl h (level_of-at (suc k) all given e m (λ j. at (suc j) ∙ ap (slice_get all) (omega arith)))
   where
-    go : (b : Bool) → same_tree l e ≡ b → cond b (Some k) (level_of (suc k) given e) ≡ Some m → (level_of (suc k) given e ≡ Some m → item_at all m ≡ Some e) → item_at all m ≡ Some e
-    go true q h ih = let km : k ≡ m = cc in ap (item_at all) (sym km) ∙ sym (at 0 ∙ ap (item_at all) (omega arith)) ∙ ap Some (same_tree-true l e q)
+    go : (b : Bool) → same_tree l e ≡ b → cond b (Some k) (level_of (suc k) given e) ≡ Some m → (level_of (suc k) given e ≡ Some m → slice_get all m ≡ Some e) → slice_get all m ≡ Some e
+    go true q h ih = let km : k ≡ m = cc in ap (slice_get all) (sym km) ∙ sym (at 0 ∙ ap (slice_get all) (omega arith)) ∙ ap Some (same_tree-true l e q)
     go false q h ih = ih h
 
 pub chain-level : (V : Tree → Type 0) (qs : List Query) (given : List Tree) (steps : Steps) (e : Tree) (o : Option ℕ) → level_of 0 given e ≡ o → V e → Chain V qs given [] steps
     → Chain V qs given [] (with_step steps e (then_do o (λ k. Some (OfLevel k))))
 chain-level V qs given steps e None h v c = c
-chain-level V qs given steps e (Some m) h v c = chain-snoc V qs given [] steps e (OfLevel m) c v (inl (level_of-at 0 given given e m (λ j. ap (item_at given) (omega arith)) h))
+chain-level V qs given steps e (Some m) h v c = chain-snoc V qs given [] steps e (OfLevel m) c v (inl (level_of-at 0 given given e m (λ j. ap (slice_get given) (omega arith)) h))
 
 pub chain-start_one : (V : Tree → Type 0) (qs : List Query) (given : List Tree) (steps : Steps) (e : Tree) → V e → Chain V qs given [] steps → Chain V qs given [] (with_step steps e (at_start given e))
 chain-start_one V qs given steps (Number n) v c = chain-snoc V qs given [] steps (Number n) (Itself n) c v (inl refl)

@@ -1,4 +1,5 @@
 -- The known expressions are in every set that has the levels and the constants and is closed under the rules.
+use Rattle.std.specs.Prelude.{slice_get}
 use Rattle.std.proofs.Common.{◌≡◌, ℕ, zero, suc, ◌⊎◌, List, [], ◌∷◌, ◌++◌, length, take, Bool, true, false, cond, sym, refl, subst, inl, inr, Option, Some, None}
 use Rattle.std.proofs.lemmas.List.{map-append}
 use Rattle.us_format.proofs.Order.{Mem}
@@ -7,7 +8,7 @@ use Rattle.us_format.proofs.Rules.{Justified, Fine, fine-rule}
 use Rattle.us_expr.specs.Tree.{Difference, Number, Quotient, Remainder, Sum, Tree, Variable}
 use Rattle.us_format.specs.Declaration.{axis_of, Query, Reorder, Schedule, index_of}
 use Rattle.us_format.specs.Known.{Give, Itself, Joined, Minus, OfLevel, OrderAt, Over, Plus, Rest, RowsAt, Steps, at_start, expressions, given_steps, has, known_of, level_of, one_pass, passes, rule, same_tree, start, step_for, with_step}
-use Rattle.us_format.specs.Lists.{item_at, then_do}
+use Rattle.us_format.specs.Lists.{then_do}
 
 -- Q is closed under the rules, as far as they lead to expressions that satisfy V
 pub record Closed (qs : List Query) (V Q : Tree → Type 0) : Type 0 where
@@ -21,8 +22,8 @@ pub record Closed (qs : List Query) (V Q : Tree → Type 0) : Type 0 where
   pub left_of_difference : (e b : Tree) → V e → Q (Difference e b) → Q b → Q e
   pub right_of_difference : (a e : Tree) → V e → Q a → Q (Difference a e) → Q e
   pub joined : (e : Tree) (k : ℕ) → V e → V (Quotient e k) → Q (Quotient e k) → Q (Remainder e k) → Q e
-  pub order : (q w : ℕ) (x : Tree) → item_at qs q ≡ Some (Reorder w x) → V (index_of (axis_of x)) → Q (Variable w) → Q (index_of (axis_of x))
-  pub rows : (q a b : ℕ) (x : Tree) (n : ℕ) → item_at qs q ≡ Some (Schedule a b x n) → V (index_of (axis_of x)) → Q (Variable a) → Q (Variable b) → Q (index_of (axis_of x))
+  pub order : (q w : ℕ) (x : Tree) → slice_get qs q ≡ Some (Reorder w x) → V (index_of (axis_of x)) → Q (Variable w) → Q (index_of (axis_of x))
+  pub rows : (q a b : ℕ) (x : Tree) (n : ℕ) → slice_get qs q ≡ Some (Schedule a b x n) → V (index_of (axis_of x)) → Q (Variable a) → Q (Variable b) → Q (index_of (axis_of x))
 
 -- V and Q of each
 abbrev pub Both : (V Q : Tree → Type 0) → List Tree → Type 0

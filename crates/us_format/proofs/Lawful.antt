@@ -1,4 +1,5 @@
 -- A lawful part over a matrix is sound, and its tables are right.
+use Rattle.std.specs.Prelude.{slice_get}
 use Rattle.std.proofs.Common.{◌≡◌, ℕ, zero, suc, ◌+◌, ◌*◌, ◌<◌, ◌≤◌, ◌⊎◌, List, [], ◌∷◌, ◌++◌, map, get_or, Bool, true, false, cond, ◌&&◌, ◌||◌, eqb, ℤ, pos, ◌+ℤ◌, ◌-ℤ◌, sym, refl, ap, ap₂, ◌∙◌, subst, inl, inr, arith, Some, AllPairs, int_eq, mul-le-mul_right}
 use Rattle.std.specs.Int.{int_div_euclid, int_rem_euclid}
 use Rattle.std.proofs.lemmas.Int.{ints}
@@ -12,7 +13,7 @@ use Rattle.us_expr.specs.Tree.{Tree, RowIndex, ColIndex, Number, Variable, Sum, 
 use Rattle.us_expr.specs.Value.{value, IsWithin}
 use Rattle.us_expr.specs.Range.{LiesIn, index_range, range_at}
 use Rattle.us_expr.proofs.Lies.{lies_part}
-use Rattle.us_format.specs.Lists.{among, item_at, nth, cell, nat_of, join}
+use Rattle.us_format.specs.Lists.{among, nth, cell, nat_of, join}
 use Rattle.us_format.specs.Matrix.{Entry, Shape, earlier, index_at, indices, is_zero, IsMatrixOf}
 use Rattle.us_format.specs.Declaration.{Query, SumOf, Enumerate, Reorder, Schedule, Part, axis_of, argument, defines, defined}
 use Rattle.us_format.specs.Known.{sub_expressions, expressions}
@@ -240,29 +241,29 @@ module _ (s : Shape) (p : Part) (m : List Entry) (la : IsLawful p) (im : IsMatri
   pub col-below : (x : Entry) → Mem x m → x.j < s.cols
   col-below x mx = all-Mem (λ y. y.j < s.cols) m x im.cols mx
 
-  pub variable-name : (q : ℕ) (r : Query) (v : ℕ) → item_at p.queries q ≡ Some r → Mem v (defines r) → v < p.names
+  pub variable-name : (q : ℕ) (r : Query) (v : ℕ) → slice_get p.queries q ≡ Some r → Mem v (defines r) → v < p.names
   variable-name q r v at h = all-Mem (λ v. v < p.names) (defined p.queries) v la.named (item-defined p.queries q r v at h)
 
   -- the value of a variable
   pub variable-value : (x : Entry) (v : ℕ) → v < p.names → value_at m s p x (Variable v) ≡ variable_at m s p.queries v x
   variable-value x v h = get_or-map-range_with_len (λ v. variable_at m s p.queries v x) 0 p.names v v (pos 0) h (omega arith)
 
-  pub variable-of : (x : Entry) (q : ℕ) (r : Query) (v : ℕ) → item_at p.queries q ≡ Some r → Mem v (defines r) → value_at m s p x (Variable v) ≡ variable_at m s p.queries v x
+  pub variable-of : (x : Entry) (q : ℕ) (r : Query) (v : ℕ) → slice_get p.queries q ≡ Some r → Mem v (defines r) → value_at m s p x (Variable v) ≡ variable_at m s p.queries v x
   variable-of x q r v at h = variable-value x v (variable-name q r v at h)
 
-  pub lanes-of : (q l u : ℕ) (t : Tree) (n : ℕ) → item_at p.queries q ≡ Some (Schedule l u t n) → 0 < n
+  pub lanes-of : (q l u : ℕ) (t : Tree) (n : ℕ) → slice_get p.queries q ≡ Some (Schedule l u t n) → 0 < n
   lanes-of q l u t n at = all-Mem HasLanes p.queries (Schedule l u t n) la.lanes (item-Mem p.queries q (Schedule l u t n) at)
 
-  pub enumerate-of : (x : Entry) (q w : ℕ) (e : Tree) → item_at p.queries q ≡ Some (Enumerate w e) → value_at m s p x (Variable w) ≡ pos (enumerate_at m e x)
+  pub enumerate-of : (x : Entry) (q w : ℕ) (e : Tree) → slice_get p.queries q ≡ Some (Enumerate w e) → value_at m s p x (Variable w) ≡ pos (enumerate_at m e x)
   enumerate-of x q w e at = variable-of x q (Enumerate w e) w at (inl refl) ∙ enumerate-value m s x p.queries q w e la.once at
 
-  pub order-of : (x : Entry) (q w : ℕ) (t : Tree) → item_at p.queries q ≡ Some (Reorder w t) → value_at m s p x (Variable w) ≡ pos (rank_of m s (axis_of t) (index_at (axis_of t) x))
+  pub order-of : (x : Entry) (q w : ℕ) (t : Tree) → slice_get p.queries q ≡ Some (Reorder w t) → value_at m s p x (Variable w) ≡ pos (rank_of m s (axis_of t) (index_at (axis_of t) x))
   order-of x q w t at = variable-of x q (Reorder w t) w at (inl refl) ∙ order-value m s x p.queries q w t la.once at
 
-  pub lane-of : (x : Entry) (q l u : ℕ) (t : Tree) (n : ℕ) → item_at p.queries q ≡ Some (Schedule l u t n) → value_at m s p x (Variable l) ≡ pos (lane_at m s (axis_of t) n (index_at (axis_of t) x))
+  pub lane-of : (x : Entry) (q l u : ℕ) (t : Tree) (n : ℕ) → slice_get p.queries q ≡ Some (Schedule l u t n) → value_at m s p x (Variable l) ≡ pos (lane_at m s (axis_of t) n (index_at (axis_of t) x))
   lane-of x q l u t n at = variable-of x q (Schedule l u t n) l at (inl refl) ∙ lane-value m s x p.queries q l u t n la.once at
 
-  pub slot-of : (x : Entry) (q l u : ℕ) (t : Tree) (n : ℕ) → item_at p.queries q ≡ Some (Schedule l u t n) → value_at m s p x (Variable u) ≡ pos (slot_at m s (axis_of t) n (index_at (axis_of t) x))
+  pub slot-of : (x : Entry) (q l u : ℕ) (t : Tree) (n : ℕ) → slice_get p.queries q ≡ Some (Schedule l u t n) → value_at m s p x (Variable u) ≡ pos (slot_at m s (axis_of t) n (index_at (axis_of t) x))
   slot-of x q l u t n at = variable-of x q (Schedule l u t n) u at (inr (inl refl)) ∙ slot-value m s x p.queries q l u t n la.once at
 
   -- ---- the queries tell what they should
@@ -341,12 +342,12 @@ module _ (s : Shape) (p : Part) (m : List Entry) (la : IsLawful p) (im : IsMatri
   abbrev pub tables : List (List ℤ)
   tables = map (λ q. written (table_buffer m s q)) p.queries
 
-  pub nth-map : {A : Type 0} (f : A → List ℤ) (xs : List A) (k : ℕ) (a : A) → item_at xs k ≡ Some a → nth (map f xs) k ≡ f a
+  pub nth-map : {A : Type 0} (f : A → List ℤ) (xs : List A) (k : ℕ) (a : A) → slice_get xs k ≡ Some a → nth (map f xs) k ≡ f a
   nth-map f [] k a h = absurd (cc)
   nth-map f (x ∷ xs) zero a h = ap f (cc)
   nth-map f (x ∷ xs) (suc k) a h = nth-map f xs k a h
 
-  pub extent-at : (qs : List Query) (k : ℕ) (q : Query) → item_at qs k ≡ Some q → get_or (map (extent_of m s) qs) k 0 ≡ extent_of m s q
+  pub extent-at : (qs : List Query) (k : ℕ) (q : Query) → slice_get qs k ≡ Some q → get_or (map (extent_of m s) qs) k 0 ≡ extent_of m s q
   extent-at [] k q h = absurd (cc)
   extent-at (x ∷ xs) zero q h = ap (extent_of m s) (cc)
   extent-at (x ∷ xs) (suc k) q h = extent-at xs k q h

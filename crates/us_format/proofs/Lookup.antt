@@ -1,8 +1,9 @@
 -- A variable is what the one query that defines it says.
+use Rattle.std.specs.Prelude.{slice_get}
 use Rattle.std.proofs.Common.{◌≡◌, ℕ, zero, suc, List, [], ◌∷◌, ◌++◌, Bool, true, false, not, ◌||◌, eqb, pos, sym, refl, ◌∙◌, subst, inl, inr, Some, eq-eqb, eqb-true}
 use Rattle.std.proofs.lemmas.Bool.{and_parts, false≢true}
 use Rattle.us_expr.specs.Tree.{Tree}
-use Rattle.us_format.specs.Lists.{among, all_different, item_at}
+use Rattle.us_format.specs.Lists.{among, all_different}
 use Rattle.us_format.specs.Matrix.{Entry, Shape, index_at}
 use Rattle.us_format.specs.Declaration.{Query, SumOf, Enumerate, Reorder, Schedule, axis_of, defines, defined}
 use Rattle.us_format.specs.Queries.{enumerate_at, rank_of, lane_at, slot_at, variable_at}
@@ -37,13 +38,13 @@ different-parts (x ∷ xs) ys h =
     go v m true e f g = absurd (false≢true (sym g ∙ Mem-among x (xs ++ ys) (subst (λ (z : ℕ). Mem z (xs ++ ys)) (eqb-true v x e) (Mem-right v xs ys m))))
     go v m false e f g = rw e f
 
-pub item-defined : (qs : List Query) (q : ℕ) (r : Query) (v : ℕ) → item_at qs q ≡ Some r → Mem v (defines r) → Mem v (defined qs)
+pub item-defined : (qs : List Query) (q : ℕ) (r : Query) (v : ℕ) → slice_get qs q ≡ Some r → Mem v (defines r) → Mem v (defined qs)
 item-defined [] q r v at h = absurd (cc)
 item-defined (a ∷ qs) zero r v at h = let e : a ≡ r = cc in Mem-left v (defines a) (defined qs) (subst (λ (z : Query). Mem v (defines z)) (sym e) h)
 item-defined (a ∷ qs) (suc q) r v at h = Mem-right v (defines a) (defined qs) (item-defined qs q r v at h)
 
 -- lane and slot of a schedule are two variables
-pub lane-slot : (qs : List Query) (q l u : ℕ) (t : Tree) (n : ℕ) → all_different (defined qs) ≡ true → item_at qs q ≡ Some (Schedule l u t n) → eqb l u ≡ false
+pub lane-slot : (qs : List Query) (q l u : ℕ) (t : Tree) (n : ℕ) → all_different (defined qs) ≡ true → slice_get qs q ≡ Some (Schedule l u t n) → eqb l u ≡ false
 lane-slot [] q l u t n d at = absurd (cc)
 lane-slot (a ∷ qs) zero l u t n d at =
     let e : a ≡ Schedule l u t n = cc in
@@ -73,7 +74,7 @@ module _ (m : List Entry) (s : Shape) (x : Entry) where
   variable-first (Schedule l u t n) qs v (inr (inl h)) = rw (eq-eqb u v h) refl
   variable-first (Schedule l u t n) qs v (inr (inr h)) = absurd h
 
-  pub variable-is : (qs : List Query) (q : ℕ) (r : Query) (v : ℕ) → all_different (defined qs) ≡ true → item_at qs q ≡ Some r → Mem v (defines r) → variable_at m s qs v x ≡ variable_at m s (r ∷ []) v x
+  pub variable-is : (qs : List Query) (q : ℕ) (r : Query) (v : ℕ) → all_different (defined qs) ≡ true → slice_get qs q ≡ Some r → Mem v (defines r) → variable_at m s qs v x ≡ variable_at m s (r ∷ []) v x
   variable-is [] q r v d at h = absurd (cc)
   variable-is (a ∷ qs) zero r v d at h =
       let e : a ≡ r = cc in
@@ -82,16 +83,16 @@ module _ (m : List Entry) (s : Shape) (x : Entry) where
       let p = different-parts (defines a) (defined qs) d in
       variable-skips a qs v (p.1 v (item-defined qs q r v at h)) ∙ variable-is qs q r v p.0 at h
 
-  pub enumerate-value : (qs : List Query) (q w : ℕ) (e : Tree) → all_different (defined qs) ≡ true → item_at qs q ≡ Some (Enumerate w e) → variable_at m s qs w x ≡ pos (enumerate_at m e x)
+  pub enumerate-value : (qs : List Query) (q w : ℕ) (e : Tree) → all_different (defined qs) ≡ true → slice_get qs q ≡ Some (Enumerate w e) → variable_at m s qs w x ≡ pos (enumerate_at m e x)
   enumerate-value qs q w e d at = variable-is qs q (Enumerate w e) w d at (inl refl) ∙ rw (eq-eqb w w refl) refl
 
-  pub order-value : (qs : List Query) (q w : ℕ) (t : Tree) → all_different (defined qs) ≡ true → item_at qs q ≡ Some (Reorder w t) → variable_at m s qs w x ≡ pos (rank_of m s (axis_of t) (index_at (axis_of t) x))
+  pub order-value : (qs : List Query) (q w : ℕ) (t : Tree) → all_different (defined qs) ≡ true → slice_get qs q ≡ Some (Reorder w t) → variable_at m s qs w x ≡ pos (rank_of m s (axis_of t) (index_at (axis_of t) x))
   order-value qs q w t d at = variable-is qs q (Reorder w t) w d at (inl refl) ∙ rw (eq-eqb w w refl) refl
 
-  pub lane-value : (qs : List Query) (q l u : ℕ) (t : Tree) (n : ℕ) → all_different (defined qs) ≡ true → item_at qs q ≡ Some (Schedule l u t n)
+  pub lane-value : (qs : List Query) (q l u : ℕ) (t : Tree) (n : ℕ) → all_different (defined qs) ≡ true → slice_get qs q ≡ Some (Schedule l u t n)
       → variable_at m s qs l x ≡ pos (lane_at m s (axis_of t) n (index_at (axis_of t) x))
   lane-value qs q l u t n d at = variable-is qs q (Schedule l u t n) l d at (inl refl) ∙ rw (eq-eqb l l refl) refl
 
-  pub slot-value : (qs : List Query) (q l u : ℕ) (t : Tree) (n : ℕ) → all_different (defined qs) ≡ true → item_at qs q ≡ Some (Schedule l u t n)
+  pub slot-value : (qs : List Query) (q l u : ℕ) (t : Tree) (n : ℕ) → all_different (defined qs) ≡ true → slice_get qs q ≡ Some (Schedule l u t n)
       → variable_at m s qs u x ≡ pos (slot_at m s (axis_of t) n (index_at (axis_of t) x))
   slot-value qs q l u t n d at = variable-is qs q (Schedule l u t n) u d at (inr (inl refl)) ∙ rw (lane-slot qs q l u t n d at, eq-eqb u u refl) refl

@@ -1,8 +1,9 @@
 -- Membership by recursion on the list and by index, and in the list of a part's expressions.
+use Rattle.std.specs.Prelude.{slice_get}
 use Rattle.std.proofs.Common.{◌≡◌, ℕ, zero, suc, ◌⊎◌, List, [], ◌∷◌, ◌++◌, map, Bool, true, false, cond, sym, refl, subst, inl, inr, arith, Some, All}
 use Rattle.std.specs.List.{Contains}
 use Rattle.us_expr.specs.Tree.{Tree, RowIndex, ColIndex, Number, Variable, Sum, Difference, Quotient, Remainder}
-use Rattle.us_format.specs.Lists.{join, item_at}
+use Rattle.us_format.specs.Lists.{join}
 use Rattle.us_format.specs.Known.{has, sub_expressions, add_all}
 use Rattle.us_format.proofs.Order.{Mem}
 
@@ -21,7 +22,7 @@ all-Mem P [] x h m = absurd m
 all-Mem P (y ∷ ys) x h (inl e) = subst P e (h 0 y (omega arith))
 all-Mem P (y ∷ ys) x h (inr m) = all-Mem P ys x (λ k d l. h (suc k) d (omega (arith, l))) m
 
-pub item-Mem : {A : Type 0} (xs : List A) (k : ℕ) (x : A) → item_at xs k ≡ Some x → Mem x xs
+pub item-Mem : {A : Type 0} (xs : List A) (k : ℕ) (x : A) → slice_get xs k ≡ Some x → Mem x xs
 item-Mem [] k x h = absurd (cc)
 item-Mem (y ∷ ys) zero x h = inl (cc)
 item-Mem (y ∷ ys) (suc k) x h = inr (item-Mem ys k x h)

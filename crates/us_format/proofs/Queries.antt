@@ -1,4 +1,5 @@
 -- What ranks, counts and lanes tell.
+use Rattle.std.specs.Prelude.{slice_get}
 use Rattle.std.proofs.Common.{◌≡◌, ℕ, zero, suc, ◌+◌, ◌*◌, ◌<◌, ◌≤◌, ◌⊎◌, List, [], ◌∷◌, map, length, get_or, Bool, true, false, ◌||◌, ◌&&◌, eqb, ltb, max, ℤ, sym, refl, ap, ◌∙◌, subst, inl, inr, arith, Some, lt-ltb, ltb-true, le-ltb, eqb-true, eq-eqb, fold, int_eq, one-add}
 use Rattle.std.proofs.lemmas.List.{length-map, get_or-map}
 use Rattle.std.proofs.lemmas.Bool.{or_cases, and_parts, and_from, or_left, or_right, or_from, and_left, and_right, false≢true, cases_order, ne_eqb, cases_eq}
@@ -12,7 +13,7 @@ use Rattle.us_format.proofs.Collect.{range-Mem, earlier-irrefl}
 use Rattle.std.proofs.lemmas.List.FromFn.{length-range_with_len}
 use Rattle.us_expr.specs.Tree.{Tree}
 use Rattle.us_expr.specs.declared.queries.Axis.{Axis}
-use Rattle.us_format.specs.Lists.{among, item_at}
+use Rattle.us_format.specs.Lists.{among}
 use Rattle.us_format.specs.Matrix.{Entry, Shape, earlier, indices}
 use Rattle.us_format.specs.Queries.{enumerate_at, lane_at, lanes_of, or_zero, order_cell, plain_value, plus_one, rank_of, rows_cell, schedule_extent, slot_at, weight}
 
@@ -148,7 +149,7 @@ found-first {A} t (x ∷ xs) d h = go (t x) refl (found-first t xs d)
         later (inl q) = absurd (false≢true (sym e ∙ q))
         later (inr q) = q
 
-pub get-is : (xs : List ℕ) (k d : ℕ) → k < length xs → item_at xs k ≡ Some (get_or xs k d)
+pub get-is : (xs : List ℕ) (k d : ℕ) → k < length xs → slice_get xs k ≡ Some (get_or xs k d)
 get-is [] k d h = absurd (omega arith)
 get-is (x ∷ xs) zero d h = refl
 get-is (x ∷ xs) (suc k) d h = get-is xs k d (omega arith)

@@ -1,4 +1,5 @@
 -- From the coordinates of an entry its row and column are recovered.
+use Rattle.std.specs.Prelude.{slice_get}
 use Rattle.std.proofs.Common.{◌≡◌, ℕ, zero, suc, ◌+◌, ◌-◌, ◌*◌, ◌/◌, ◌%◌, ◌<◌, ◌⊎◌, List, [], ◌∷◌, ◌++◌, map, length, get_or, T, Bool, true, false, cond, ℤ, pos, negsuc, ◌+ℤ◌, ◌-ℤ◌, ◌*ℤ◌, ◌≤ℤ◌, int_le, sym, refl, ap, ap₂, ◌∙◌, subst, inl, inr, arith, Some, None, append-nil, append_assoc, div-add-mod', mod-lt, suc-mul, neg_ℤ}
 use Rattle.std.proofs.lemmas.Int.{ints}
 use Rattle.std.proofs.lemmas.Bool.{and_from, or_cases, or_left, or_right, false≢true}
@@ -17,7 +18,7 @@ use Rattle.us_expr.specs.declared.queries.Axis.TheVariants.{Cols, Rows}
 use Rattle.us_format.specs.Coordinates.{coordinate, level_range, value_at}
 use Rattle.us_format.specs.Declaration.{Part, Reorder, Schedule, index_of, axis_of}
 use Rattle.us_format.specs.Known.{expressions, Give, Itself, Joined, Minus, OfLevel, OrderAt, Over, Plus, Rest, RowsAt, Steps, given_steps, has, known_of, same_tree}
-use Rattle.us_format.specs.Lists.{item_at, nat_of, or_else, then_do, cell, nth}
+use Rattle.us_format.specs.Lists.{nat_of, or_else, then_do, cell, nth}
 use Rattle.us_format.specs.Matrix.{Entry, Shape, index_at}
 use Rattle.us_format.specs.Queries.{extents_of}
 use Rattle.us_format.specs.Recover.{Found, Values, both, checked, give_value, lies_in, recover, recovered, value_of}
@@ -43,8 +44,8 @@ module _ (m : List Entry) (s : Shape) (p : Part) (so : Sound m s p) (x : Entry) 
   pub record IsFound : Type 0 where
     pub coords : f.coords ≡ map (coordinate m s p x) p.levels
     pub extents : f.extents ≡ extents_of m s p
-    pub order : (q w : ℕ) (t : Tree) → item_at p.queries q ≡ Some (Reorder w t) → cell (nth f.tables q) (nat_of (value_at m s p x (Variable w))) ≡ pos (index_at (axis_of t) x)
-    pub rows : (q v w : ℕ) (t : Tree) (n : ℕ) → item_at p.queries q ≡ Some (Schedule v w t n)
+    pub order : (q w : ℕ) (t : Tree) → slice_get p.queries q ≡ Some (Reorder w t) → cell (nth f.tables q) (nat_of (value_at m s p x (Variable w))) ≡ pos (index_at (axis_of t) x)
+    pub rows : (q v w : ℕ) (t : Tree) (n : ℕ) → slice_get p.queries q ≡ Some (Schedule v w t n)
         → cell (nth f.tables q) (nat_of (value_at m s p x (Variable v)) * get_or f.extents q 0 + nat_of (value_at m s p x (Variable w))) ≡ pos (index_at (axis_of t) x) +ℤ pos 1
 
   -- one of the part's expressions
@@ -85,20 +86,20 @@ module _ (m : List Entry) (s : Shape) (p : Part) (so : Sound m s p) (x : Entry) 
 
   -- ---- a step gives the value of its expression
 
-  pub level-value : IsFound → (k : ℕ) (e : Tree) → item_at p.levels k ≡ Some e → pos (get_or f.coords k 0) +ℤ (level_range s f.extents p (get_or p.levels k RowIndex)).lo ≡ val e
+  pub level-value : IsFound → (k : ℕ) (e : Tree) → slice_get p.levels k ≡ Some e → pos (get_or f.coords k 0) +ℤ (level_range s f.extents p (get_or p.levels k RowIndex)).lo ≡ val e
   level-value fo k e at = rw (fo.coords, fo.extents, get-tree p.levels k e at, get-coordinate p.levels k e at) (back (val e) (level_range s (extents_of m s p) p e).lo (level-lies m s p so x mx e (tree-Mem p.levels k e at)).low)
     where
-      get-tree : (ls : List Tree) (k : ℕ) (e : Tree) → item_at ls k ≡ Some e → get_or ls k RowIndex ≡ e
+      get-tree : (ls : List Tree) (k : ℕ) (e : Tree) → slice_get ls k ≡ Some e → get_or ls k RowIndex ≡ e
       get-tree [] k e h = absurd (cc)
       get-tree (l ∷ ls) zero e h = cc
       get-tree (l ∷ ls) (suc k) e h = get-tree ls k e h
 
-      get-coordinate : (ls : List Tree) (k : ℕ) (e : Tree) → item_at ls k ≡ Some e → get_or (map (coordinate m s p x) ls) k 0 ≡ coordinate m s p x e
+      get-coordinate : (ls : List Tree) (k : ℕ) (e : Tree) → slice_get ls k ≡ Some e → get_or (map (coordinate m s p x) ls) k 0 ≡ coordinate m s p x e
       get-coordinate [] k e h = absurd (cc)
       get-coordinate (l ∷ ls) zero e h = let q : l ≡ e = cc in ap (coordinate m s p x) q
       get-coordinate (l ∷ ls) (suc k) e h = get-coordinate ls k e h
 
-      tree-Mem : (ls : List Tree) (k : ℕ) (e : Tree) → item_at ls k ≡ Some e → Mem e ls
+      tree-Mem : (ls : List Tree) (k : ℕ) (e : Tree) → slice_get ls k ≡ Some e → Mem e ls
       tree-Mem [] k e h = absurd (cc)
       tree-Mem (l ∷ ls) zero e h = inl (cc)
       tree-Mem (l ∷ ls) (suc k) e h = inr (tree-Mem ls k e h)

@@ -1,11 +1,12 @@
 -- What a rule gives is right wherever its operands are.
+use Rattle.std.specs.Prelude.{slice_get}
 use Rattle.std.proofs.Common.{◌≡◌, ℕ, suc, ◌+◌, ◌⊎◌, List, [], ◌∷◌, Bool, true, false, cond, ◌&&◌, eqb, sym, refl, ap, ◌∙◌, inl, inr, eqb-true, Option, Some, None, arith}
 use Rattle.std.proofs.lemmas.Bool.{and_parts}
 use Rattle.us_format.proofs.Trees.{same_tree-true}
 use Rattle.us_expr.specs.Tree.{Difference, Number, Quotient, Remainder, Sum, Tree, Variable}
 use Rattle.us_format.specs.Declaration.{axis_of, Enumerate, Query, Reorder, Schedule, SumOf, index_of}
 use Rattle.us_format.specs.Known.{Give, Itself, Joined, Minus, OfLevel, OrderAt, Over, Plus, Rest, RowsAt, from_difference, from_operands, from_quotient, from_reorder, from_schedule, from_sum, has, order_for, rows_for, rule, same_tree}
-use Rattle.us_format.specs.Lists.{item_at, first_of, or_else, when}
+use Rattle.us_format.specs.Lists.{first_of, or_else, when}
 
 -- g gives e from operands that are known
 abbrev pub Justified : List Query → List Tree → Tree → Give → Type 0
@@ -16,8 +17,8 @@ Justified qs known e (Minus a b) = (has known a ≡ true) × (has known b ≡ tr
 Justified qs known e (Joined q r k) = (has known q ≡ true) × (has known r ≡ true) × (q ≡ Quotient e k) × (r ≡ Remainder e k)
 Justified qs known e (Over a k) = (has known a ≡ true) × (e ≡ Quotient a k)
 Justified qs known e (Rest a k) = (has known a ≡ true) × (e ≡ Remainder a k)
-Justified qs known e (OrderAt q v) = (has known v ≡ true) × ((w : ℕ) × (x : Tree) × (item_at qs q ≡ Some (Reorder w x)) × (v ≡ Variable w) × (e ≡ index_of (axis_of x)))
-Justified qs known e (RowsAt q l s) = (has known l ≡ true) × (has known s ≡ true) × ((a : ℕ) × (b : ℕ) × (x : Tree) × (n : ℕ) × (item_at qs q ≡ Some (Schedule a b x n)) × (l ≡ Variable a) × (s ≡ Variable b) × (e ≡ index_of (axis_of x)))
+Justified qs known e (OrderAt q v) = (has known v ≡ true) × ((w : ℕ) × (x : Tree) × (slice_get qs q ≡ Some (Reorder w x)) × (v ≡ Variable w) × (e ≡ index_of (axis_of x)))
+Justified qs known e (RowsAt q l s) = (has known l ≡ true) × (has known s ≡ true) × ((a : ℕ) × (b : ℕ) × (x : Tree) × (n : ℕ) × (slice_get qs q ≡ Some (Schedule a b x n)) × (l ≡ Variable a) × (s ≡ Variable b) × (e ≡ index_of (axis_of x)))
 
 -- what is given, if anything, is justified
 abbrev pub Fine : List Query → List Tree → Tree → Option Give → Type 0
@@ -60,37 +61,37 @@ fine-quotient qs known e (Quotient a k) =
 fine-quotient qs known e _ = tt
 
 -- the number of a query that stands further on
-pub later : (all qs : List Query) (q : Query) (k : ℕ) → ((m : ℕ) → item_at (q ∷ qs) m ≡ item_at all (k + m)) → (m : ℕ) → item_at qs m ≡ item_at all (suc k + m)
-later all qs q k h m = h (suc m) ∙ ap (item_at all) (omega arith)
+pub later : (all qs : List Query) (q : Query) (k : ℕ) → ((m : ℕ) → slice_get (q ∷ qs) m ≡ slice_get all (k + m)) → (m : ℕ) → slice_get qs m ≡ slice_get all (suc k + m)
+later all qs q k h m = h (suc m) ∙ ap (slice_get all) (omega arith)
 
-pub fine-order : (all : List Query) (known : List Tree) (e : Tree) (v k : ℕ) (qs : List Query) → ((m : ℕ) → item_at qs m ≡ item_at all (k + m)) → Fine all known e (order_for known e v k qs)
+pub fine-order : (all : List Query) (known : List Tree) (e : Tree) (v k : ℕ) (qs : List Query) → ((m : ℕ) → slice_get qs m ≡ slice_get all (k + m)) → Fine all known e (order_for known e v k qs)
 fine-order all known e v k [] h = tt
 fine-order all known e v k (Reorder w x ∷ qs) h =
     fine-or all known e _ _
     (fine-when all known e (eqb w v && (same_tree (index_of (axis_of x)) e && has known (Variable v))) (OrderAt k (Variable v)) (λ t. let u = and_parts _ _ t in let y = and_parts _ _ u.1 in
-    (y.1, (w, x, sym (h 0 ∙ ap (item_at all) (omega arith)), ap Variable (sym (eqb-true w v u.0)), sym (same_tree-true (index_of (axis_of x)) e y.0)))))
+    (y.1, (w, x, sym (h 0 ∙ ap (slice_get all) (omega arith)), ap Variable (sym (eqb-true w v u.0)), sym (same_tree-true (index_of (axis_of x)) e y.0)))))
     (fine-order all known e v (suc k) qs (later all qs (Reorder w x) k h))
 fine-order all known e v k (SumOf w x ∷ qs) h = fine-order all known e v (suc k) qs (later all qs (SumOf w x) k h)
 fine-order all known e v k (Enumerate w x ∷ qs) h = fine-order all known e v (suc k) qs (later all qs (Enumerate w x) k h)
 fine-order all known e v k (Schedule a b x n ∷ qs) h = fine-order all known e v (suc k) qs (later all qs (Schedule a b x n) k h)
 
-pub fine-rows : (all : List Query) (known : List Tree) (e : Tree) (v k : ℕ) (qs : List Query) → ((m : ℕ) → item_at qs m ≡ item_at all (k + m)) → Fine all known e (rows_for known e v k qs)
+pub fine-rows : (all : List Query) (known : List Tree) (e : Tree) (v k : ℕ) (qs : List Query) → ((m : ℕ) → slice_get qs m ≡ slice_get all (k + m)) → Fine all known e (rows_for known e v k qs)
 fine-rows all known e v k [] h = tt
 fine-rows all known e v k (Schedule a b x n ∷ qs) h =
     fine-or all known e _ _
     (fine-when all known e (eqb a v && (same_tree (index_of (axis_of x)) e && (has known (Variable a) && has known (Variable b)))) (RowsAt k (Variable a) (Variable b)) (λ t. let u = and_parts _ _ t in let y = and_parts _ _ u.1 in let z = and_parts _ _ y.1 in
-    (z.0, z.1, (a, b, x, n, sym (h 0 ∙ ap (item_at all) (omega arith)), refl, refl, sym (same_tree-true (index_of (axis_of x)) e y.0)))))
+    (z.0, z.1, (a, b, x, n, sym (h 0 ∙ ap (slice_get all) (omega arith)), refl, refl, sym (same_tree-true (index_of (axis_of x)) e y.0)))))
     (fine-rows all known e v (suc k) qs (later all qs (Schedule a b x n) k h))
 fine-rows all known e v k (SumOf w x ∷ qs) h = fine-rows all known e v (suc k) qs (later all qs (SumOf w x) k h)
 fine-rows all known e v k (Enumerate w x ∷ qs) h = fine-rows all known e v (suc k) qs (later all qs (Enumerate w x) k h)
 fine-rows all known e v k (Reorder w x ∷ qs) h = fine-rows all known e v (suc k) qs (later all qs (Reorder w x) k h)
 
 pub fine-reorder : (qs : List Query) (known : List Tree) (e s : Tree) → Fine qs known e (from_reorder qs known e s)
-fine-reorder qs known e (Variable v) = fine-order qs known e v 0 qs (λ m. ap (item_at qs) (omega arith))
+fine-reorder qs known e (Variable v) = fine-order qs known e v 0 qs (λ m. ap (slice_get qs) (omega arith))
 fine-reorder qs known e _ = tt
 
 pub fine-schedule : (qs : List Query) (known : List Tree) (e s : Tree) → Fine qs known e (from_schedule qs known e s)
-fine-schedule qs known e (Variable v) = fine-rows qs known e v 0 qs (λ m. ap (item_at qs) (omega arith))
+fine-schedule qs known e (Variable v) = fine-rows qs known e v 0 qs (λ m. ap (slice_get qs) (omega arith))
 fine-schedule qs known e _ = tt
 
 pub fine-operands : (qs : List Query) (known : List Tree) (e : Tree) → Fine qs known e (from_operands known e)

@@ -47,6 +47,14 @@ worked_kinds = record {
   dia_ranges = refl;
   ell_kinds = refl;
   ell_ranges = refl;
+  digits_kinds = refl;
+  digits_ranges = refl;
+  csc_kinds = refl;
+  coo_kinds = refl;
+  dcsr_kinds = refl;
+  bcsr_kinds = refl;
+  heavy_first_kinds = refl;
+  heavy_rest_kinds = refl;
   jds_kinds = refl;
   cisr_kinds = refl;
   aos_kinds = refl;
@@ -56,6 +64,7 @@ worked_kinds = record {
 
 pub worked_known : WorkedKnown
 worked_known = record {
+  no_levels = refl;
   both = refl;
   half_row = refl;
   half_row_column = refl;

@@ -26,12 +26,6 @@ abbrev pub first_from : (ℕ → Bool) → ℕ → ℕ → Option ℕ
 first_from test k zero = None
 first_from test k (suc n) = if test k then Some k else first_from test (suc k) n
 
--- the item with this number, counted from 0
-abbrev pub item_at : {A : Type 0} → List A → ℕ → Option A
-item_at [] k = None
-item_at (x ∷ xs) zero = Some x
-item_at (x ∷ xs) (suc k) = item_at xs k
-
 -- the list with this number, or the empty list
 abbrev pub nth : {A : Type 0} → List (List A) → ℕ → List A
 nth xs k = slice_index_or xs k []

@@ -1,7 +1,7 @@
 -- What buffers mean, and which are well-formed.
-use Rattle.std.specs.Prelude.{ℕ, suc, ℤ, pos, List, [], ◌∷◌, ◌++◌, map, length, Bool, if◌then◌else◌, ◌≡◌, Option, Some, None, Result, Ok, Err}
+use Rattle.std.specs.Prelude.{slice_get, ℕ, suc, ℤ, pos, List, [], ◌∷◌, ◌++◌, map, length, Bool, if◌then◌else◌, ◌≡◌, Option, Some, None, Result, Ok, Err}
 use Rattle.std.specs.List.{range_with_len}
-use Rattle.us_format.specs.Lists.{then_do, item_at, cell}
+use Rattle.us_format.specs.Lists.{then_do, cell}
 use Rattle.us_format.specs.Matrix.{Entry, Shape, is_zero, put, in_shape}
 use Rattle.us_format.specs.Declaration.{Part, Declaration}
 use Rattle.us_format.specs.Kinds.{levels_of}
@@ -70,7 +70,7 @@ value_in s (Some part) x = cell (part_values s part.0 part.1) x
 abbrev pub collected : Shape → Declaration → List (List ℤ) → Result (List Entry) Position
 collected s d bufs =
     let parts = all_contents d.parts bufs in
-    collect (λ at. is_zero (value_in s (item_at parts at.0) at.1)) (λ at. then_do (item_at parts at.0) (λ part. entry_at s part.0 part.1 at.1)) (all_positions s 0 parts) []
+    collect (λ at. is_zero (value_in s (slice_get parts at.0) at.1)) (λ at. then_do (slice_get parts at.0) (λ part. entry_at s part.0 part.1 at.1)) (all_positions s 0 parts) []
 
 -- the matrix that buffers mean. There is none where they don't fit, where a climb or a recovery fails, and where a coordinate comes twice
 abbrev pub meaning : Shape → Declaration → List (List ℤ) → Option (List Entry)

@@ -1,11 +1,11 @@
 -- What the variables of a part are at an entry, by counts of the part's entries.
-use Rattle.std.specs.Prelude.{ℕ, zero, suc, ◌/◌, ◌%◌, ℤ, pos, List, [], ◌∷◌, ◌++◌, map, length, ◌&&◌, ◌||◌, nat_eq, nat_lt, if◌then◌else◌, Option, Some, None}
+use Rattle.std.specs.Prelude.{slice_get, ℕ, zero, suc, ◌/◌, ◌%◌, ℤ, pos, List, [], ◌∷◌, ◌++◌, map, length, ◌&&◌, ◌||◌, nat_eq, nat_lt, if◌then◌else◌, Option, Some, None}
 use Rattle.std.specs.List.{count_by, range_with_len, fold, sum_by, position_or_len}
 use Rattle.std.specs.Ordering.{int_eq}
 use Rattle.us_expr.specs.declared.queries.Axis.{Axis}
 use Rattle.us_expr.specs.Tree.{Tree}
 use Rattle.us_expr.specs.Value.{value}
-use Rattle.us_format.specs.Lists.{first_from, item_at, among, greatest, nth}
+use Rattle.us_format.specs.Lists.{first_from, among, greatest, nth}
 use Rattle.us_format.specs.Matrix.{Entry, Shape, earlier, index_at, indices}
 use Rattle.us_format.specs.Declaration.{Query, SumOf, Enumerate, Reorder, Schedule, Part, axis_of}
 
@@ -96,7 +96,7 @@ plus_one (Some a) = suc a
 
 -- the index at the lane x / extent and the slot x % extent, plus 1; 0 where there is none
 abbrev pub rows_cell : List Entry → Shape → Axis → ℕ → ℕ → ℕ
-rows_cell m s axis n x = let extent = schedule_extent m s axis n in plus_one (item_at (nth (lanes_of m s axis n) (x / extent)) (x % extent))
+rows_cell m s axis n x = let extent = schedule_extent m s axis n in plus_one (slice_get (nth (lanes_of m s axis n) (x / extent)) (x % extent))
 
 -- ---- variables
 

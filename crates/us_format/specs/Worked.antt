@@ -13,7 +13,7 @@ use Rattle.us_format.specs.Kinds.{levels_of}
 use Rattle.us_format.specs.Buffers.{buffers, size}
 use Rattle.us_format.specs.Reading.{fits, misfit, size_in}
 use Rattle.us_format.specs.Meaning.{collected, meaning}
-use Rattle.us_format.specs.Library.{csr, csc, coo, dcsr, bcsr, dia, ell, jds, cisr, aos, hyb, heavy, entry, csr_part, dia_part, ell_part, jds_part, cisr_part, aos_part, hyb_first, hyb_rest}
+use Rattle.us_format.specs.Library.{csr, csc, coo, dcsr, bcsr, dia, ell, jds, cisr, aos, hyb, heavy, entry, csr_part, csc_part, coo_part, dcsr_part, bcsr_part, dia_part, ell_part, jds_part, cisr_part, aos_part, hyb_first, hyb_rest, heavy_first, heavy_rest}
 
 -- ---- the sample: 3 rows, 4 columns, 5 at (0, 0), 2 at (0, 2), -7 at (2, 1)
 
@@ -89,6 +89,10 @@ ranges p = map (level_range sample_shape (extents_of sample sample_shape p) p) p
 abbrev pub from_to : ℤ → ℤ → Range
 from_to lo hi = record { lo = lo; hi = hi }
 
+-- map (i % 4, i / 4, j)
+abbrev pub digits_part : Part
+digits_part = record { names = 0; queries = []; levels = Remainder RowIndex 4 ∷ Quotient RowIndex 4 ∷ ColIndex ∷ []; trim = []; merge = []; packs = [] }
+
 pub record WorkedKinds : Type 0 where
   pub csr_kinds : kinds csr_part ≡ Full ∷ Compressed ∷ []
   pub csr_ranges : ranges csr_part ≡ from_to (pos 0) (pos 2) ∷ from_to (pos 0) (pos 3) ∷ []
@@ -96,6 +100,14 @@ pub record WorkedKinds : Type 0 where
   pub dia_ranges : ranges dia_part ≡ from_to (negsuc 1) (pos 3) ∷ from_to (pos 0) (pos 2) ∷ []
   pub ell_kinds : kinds ell_part ≡ Full ∷ Full ∷ Slot ∷ []
   pub ell_ranges : ranges ell_part ≡ from_to (pos 0) (pos 2) ∷ from_to (pos 0) (pos 1) ∷ from_to (pos 0) (pos 3) ∷ []
+  pub digits_kinds : kinds digits_part ≡ Full ∷ Full ∷ Full ∷ []
+  pub digits_ranges : ranges digits_part ≡ from_to (pos 0) (pos 2) ∷ from_to (pos 0) (pos 0) ∷ from_to (pos 0) (pos 3) ∷ []
+  pub csc_kinds : kinds csc_part ≡ Full ∷ Compressed ∷ []
+  pub coo_kinds : kinds coo_part ≡ Listed ∷ Slot ∷ []
+  pub dcsr_kinds : kinds dcsr_part ≡ Compressed ∷ Compressed ∷ []
+  pub bcsr_kinds : kinds bcsr_part ≡ Full ∷ Compressed ∷ Full ∷ Full ∷ []
+  pub heavy_first_kinds : kinds heavy_first ≡ Full ∷ Compressed ∷ []
+  pub heavy_rest_kinds : kinds heavy_rest ≡ Listed ∷ Slot ∷ []
   pub jds_kinds : kinds jds_part ≡ Full ∷ Full ∷ Slot ∷ []
   pub cisr_kinds : kinds cisr_part ≡ Full ∷ Full ∷ Compressed ∷ []
   pub aos_kinds : kinds aos_part ≡ Listed ∷ Slot ∷ []
@@ -112,6 +124,7 @@ abbrev pub col_known : List Tree → Bool
 col_known levels = is_known levels [] (length levels) ColIndex
 
 pub record WorkedKnown : Type 0 where
+  pub no_levels : row_known [] ≡ false
   pub both : row_known (RowIndex ∷ ColIndex ∷ []) ≡ true
   pub half_row : row_known (Quotient RowIndex 2 ∷ ColIndex ∷ []) ≡ false
   pub half_row_column : col_known (Quotient RowIndex 2 ∷ ColIndex ∷ []) ≡ true

@@ -1,21 +1,14 @@
-// Files in memory, which tell everything, with calls that are to fail. Stores are kept as a log, the newest first.
+// Files in memory, which tell everything, with calls that are to fail.
 ghost use Rattle.std.specs.Prelude.{◌≡◌, ◌≤◌, ◌++◌, [], length, take, Some, None, OnOk, OnErr, MatchOption};
 ghost use Rattle.std.specs.FinMap as finite;
 ghost use Rattle.us_outside.specs.declared.outside.Call.{Call};
 ghost use Rattle.us_outside.specs.Causes.{Rose};
-ghost use Rattle.us_outside.specs.Files.{stored, content_of, IsFetch};
-ghost use Rattle.us_outside.specs.Memory.{files_of};
+ghost use Rattle.us_outside.specs.Files.{stored};
+ghost use Rattle.us_outside.specs.Folder.{files_in};
 
+use crate::folder::{Folder, copy_from};
 use crate::{Call, Outside, OutsideFault};
 use std::alloc::{AllocError, Global};
-use std::collections::VecDeque;
-
-/// A file as it was stored.
-#[derive(Drop)]
-pub struct File {
-    name: String,
-    bytes: Vec<u8>,
-}
 
 /// A call that is to fail, and how many bytes of a store or a print it keeps.
 #[derive(Clone, Copy)]
@@ -28,8 +21,7 @@ struct Planned {
 /// Files and prints in memory.
 #[derive(Drop)]
 pub struct MemoryOutside {
-    alloc: Global,
-    log: VecDeque<File>,
+    folder: Folder,
     printed: Vec<u8>,
     planned: Vec<Planned>,
     fetches: u64,
@@ -47,8 +39,7 @@ impl MemoryOutside {
         ensures printed { memory_printed result ≡ [] }
     {
         MemoryOutside {
-            alloc,
-            log: VecDeque::new(alloc),
+            folder: Folder::new(alloc),
             printed: Vec::new(alloc),
             planned: Vec::new(alloc),
             fetches: 0,
@@ -64,14 +55,14 @@ impl MemoryOutside {
         ensures err { OnErr result (memory_files self.new ≡ memory_files self.old) }
         ensures printed { memory_printed self.new ≡ memory_printed self.old }
     {
-        push_file(self.alloc, &mut self.log, name, bytes)
+        self.folder.put(name, bytes)
     }
 
     /// The bytes of a file, where there is one.
     pub fn file(&self, name: &str) -> Option<&[u8]>
         ensures { MatchOption result (finite.get (memory_files self.now) name.now ≡ None) (λ bytes. finite.get (memory_files self.now) name.now ≡ Some bytes.now) }
     {
-        newest(&self.log, name)
+        self.folder.get(name)
     }
 
     /// What was printed.
@@ -101,7 +92,7 @@ impl MemoryOutside {
 }
 
 impl Outside for MemoryOutside {
-    ghost files = { λ m. Some (files_of m.log.items) };
+    ghost files = { λ m. Some (files_in m.folder) };
 
     ghost printed = { λ m. Some m.printed.items };
 
@@ -110,7 +101,7 @@ impl Outside for MemoryOutside {
     fn fetch(&mut self, name: &str, from: u64, room: &mut [u8]) -> Result<usize, OutsideFault> {
         self.fetches = self.fetches.saturating_add(1);
         if keeps(&self.planned, Call::Fetch, self.fetches).is_none() {
-            if let Some(bytes) = newest(&self.log, name) {
+            if let Some(bytes) = self.folder.get(name) {
                 return Ok(copy_from(bytes, from, room));
             }
         }
@@ -121,9 +112,9 @@ impl Outside for MemoryOutside {
     fn store(&mut self, name: &str, bytes: &[u8]) -> Result<(), OutsideFault> {
         self.stores = self.stores.saturating_add(1);
         match keeps(&self.planned, Call::Store, self.stores) {
-            None => Ok(push_file(self.alloc, &mut self.log, name, bytes)?),
+            None => Ok(self.folder.put(name, bytes)?),
             Some(keep) => {
-                push_file(self.alloc, &mut self.log, name, front(bytes, keep))?;
+                self.folder.put(name, front(bytes, keep))?;
                 self.count_fault();
                 Err(OutsideFault::Failed)
             }
@@ -159,44 +150,4 @@ fn front(bytes: &[u8], keep: u64) -> &[u8]
     } else {
         bytes
     }
-}
-
-pub(crate) fn push_file(
-    alloc: Global,
-    log: &mut VecDeque<File>,
-    name: &str,
-    bytes: &[u8],
-) -> Result<(), AllocError>
-    ensures ok { OnOk result (files_of log.new.items ≡ stored name.now bytes.now (files_of log.old.items)) }
-    ensures err { OnErr result (log.new.items ≡ log.old.items) }
-{
-    let name = String::from_str(alloc, name)?;
-    let bytes = Vec::from_slice(alloc, bytes)?;
-    log.push_front(File { name, bytes })?;
-    Ok(())
-}
-
-pub(crate) fn newest<'a>(log: &'a VecDeque<File>, name: &str) -> Option<&'a [u8]>
-    ensures { MatchOption result (finite.get (files_of log.now.items) name.now ≡ None) (λ bytes. finite.get (files_of log.now.items) name.now ≡ Some bytes.now) }
-{
-    for file in log {
-        if file.name.as_str() == name {
-            return Some(&file.bytes);
-        }
-    }
-    None
-}
-
-// Copies what fits of the bytes from a place on.
-pub(crate) fn copy_from(bytes: &[u8], from: u64, room: &mut [u8]) -> usize
-    ensures bound { result ≤ length room.new }
-    ensures copied { IsFetch bytes.now from result room.new }
-{
-    if from >= bytes.len() as u64 {
-        return 0;
-    }
-    let rest = &bytes[from as usize..];
-    let count = rest.len().min(room.len());
-    room[..count].copy_from_slice(&rest[..count]);
-    count
 }

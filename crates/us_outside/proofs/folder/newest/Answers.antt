@@ -4,9 +4,9 @@ use Rattle.std.proofs.lemmas.Cmp.{nat_list_cmp_total}
 use Rattle.std.specs.Cmp.Lexicographic.{slice_cmp}
 use Rattle.std.specs.FinMap.{find, get-from_entries}
 use Rattle.std.specs.Str.{bytes_eq}
-use Rattle.us_outside.proofs.MemoryLemmas.{find_here, find_there}
-use Rattle.us_outside.specs.Memory.{entry_of}
-use Rattle.us_outside.proofs.memory.newest.Goals as goal
+use Rattle.us_outside.proofs.FolderLemmas.{find_here, find_there}
+use Rattle.us_outside.specs.Folder.{entry_of}
+use Rattle.us_outside.proofs.folder.newest.Goals as goal
 
 pub loop-file-init : goal.loop-file-init
 loop-file-init c =
