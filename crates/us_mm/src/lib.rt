@@ -13,6 +13,7 @@ mod writer;
 pub use fault::MmFault;
 pub use laws::text_reads;
 pub use reader::read_coordinate;
+pub use words::number_of;
 pub use writer::write_coordinate;
 
 #[cfg(test)]

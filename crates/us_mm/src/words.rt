@@ -58,8 +58,8 @@ pub fn three_words(line: &[u8]) -> Option<(&[u8], &[u8], &[u8])>
     Some((first, second, third))
 }
 
-/// The number that digits write, or the largest u64 where it is larger; none where they are no digits.
-fn number_of(ds: &[u8]) -> Option<u64>
+/// The number that decimal digits write, or the largest u64 where it is larger; none where they are no digits.
+pub fn number_of(ds: &[u8]) -> Option<u64>
     ensures { MatchOption result (is_numeral ds.now ≡ false) (λ n. (is_numeral ds.now ≡ true) × (n ≡ min (digits_value 10 ds.now) (2 ^ 64 - 1))) }
 {
     if ds.is_empty() {

@@ -2,11 +2,13 @@
 use Rattle.std.specs.Prelude.{◌≡◌, ℕ, ◌⊎◌, List, [], ◌∷◌, Result, Ok, Err}
 use Rattle.us_mm.specs.declared.fault.MmFault.{MmFault}
 use Rattle.us_mm.specs.declared.fault.MmFault.TheVariants as mm
+use Rattle.us_decl.specs.declared.parsed.DeclFault.{DeclFault}
+use Rattle.us_decl.specs.declared.parsed.DeclFault.TheVariants as decl
 use Rattle.us_outside.specs.Causes.{Faults, Rose}
 use Rattle.us_outside.specs.declared.outside.Call.TheVariants.{Fetch}
 use Rattle.us_top.specs.declared.status.Slot.{Slot}
 use Rattle.us_top.specs.declared.status.Status.{Status}
-use Rattle.us_top.specs.declared.status.Status.TheVariants.{Done, Matrix, TooLong, ReadFault, WriteFault, Memory}
+use Rattle.us_top.specs.declared.status.Status.TheVariants.{Done, Matrix, TooLong, ReadFault, WriteFault, Memory, Formats}
 use Rattle.us_top.specs.Commands.{Use}
 
 -- An answer is the plain one, or want of memory, or a fault of the outside. Of these, a failed write comes only where the
@@ -58,9 +60,15 @@ abbrev pub refusal_of : Slot → MmFault → Status
 refusal_of slot mm.Memory = Memory
 refusal_of slot fault = Matrix slot fault
 
+-- the answer to a fault of the reader of libraries
+abbrev pub formats_refusal_of : DeclFault → Status
+formats_refusal_of decl.Memory = Memory
+formats_refusal_of fault = Formats fault
+
 -- the answers to a file that isn't read
 abbrev pub IsReadRefusal : Slot → List ℕ → Faults → Faults → Status → Type 0
 IsReadRefusal slot name before now (Matrix s fault) = s ≡ slot
+IsReadRefusal slot name before now (Formats fault) = Unit {0}
 IsReadRefusal slot name before now (TooLong s) = s ≡ slot
 IsReadRefusal slot name before now (ReadFault s) = (s ≡ slot) × Rose (before Fetch name) (now Fetch name)
 IsReadRefusal slot name before now Memory = Unit {0}

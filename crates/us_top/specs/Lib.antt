@@ -1,4 +1,6 @@
 pub mod Commands
+pub mod Library
+pub mod Report
 pub mod Outcome
 pub mod Answers
 pub mod Stands

@@ -3,6 +3,9 @@ use Rattle.std.specs.Prelude.{ℕ, List, ◌++◌, codes}
 use Rattle.std.specs.Fmt.{decimal}
 use Rattle.us_mm.specs.declared.fault.MmFault.{MmFault}
 use Rattle.us_mm.specs.declared.fault.MmFault.TheVariants as mm
+use Rattle.us_decl.specs.declared.parsed.DeclFault.{DeclFault}
+use Rattle.us_decl.specs.declared.parsed.DeclFault.TheVariants as decl
+use Rattle.us_top.specs.declared.status.Status.TheVariants as status
 use Rattle.us_top.specs.declared.status.Slot.{Slot}
 use Rattle.us_top.specs.declared.status.Slot.TheVariants.{Formats, Input, Operand, Code, Output, Listing, Print}
 use Rattle.us_top.specs.declared.status.Status.{Status}
@@ -33,11 +36,20 @@ fault_text (mm.Missing found wanted) = codes "missing " ++ decimal found ++ code
 fault_text (mm.Extra line) = codes "extra line " ++ decimal line
 fault_text mm.Memory = codes "memory"
 
+-- what is said of a fault of a library
+abbrev pub formats_text : DeclFault → List ℕ
+formats_text (decl.Token place) = codes "token " ++ decimal place
+formats_text (decl.Form place) = codes "form " ++ decimal place
+formats_text (decl.TooBig place) = codes "too big " ++ decimal place
+formats_text (decl.Repeated place) = codes "repeated " ++ decimal place
+formats_text decl.Memory = codes "memory"
+
 -- the line that tells an answer, without its line feed
 abbrev pub status_line : Status → List ℕ
 status_line Done = codes "ok"
 status_line Words = codes "words"
 status_line (Matrix slot fault) = codes "matrix " ++ slot_word slot ++ codes " " ++ fault_text fault
+status_line (status.Formats fault) = codes "formats " ++ formats_text fault
 status_line (ReadFault slot) = codes "read fault " ++ slot_word slot
 status_line (WriteFault slot) = codes "write fault " ++ slot_word slot
 status_line (TooLong slot) = codes "too long " ++ slot_word slot
@@ -48,6 +60,7 @@ abbrev pub code_of : Status → ℕ
 code_of Done = 0
 code_of Words = 1
 code_of (Matrix slot fault) = 2
+code_of (status.Formats fault) = 3
 code_of (ReadFault slot) = 12
 code_of (WriteFault slot) = 13
 code_of (TooLong slot) = 14

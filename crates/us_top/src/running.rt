@@ -1,12 +1,13 @@
 // The call that does all that the program does.
-ghost use Rattle.std.specs.Prelude.{◌≡◌, ◌↔◌, None, IfSome};
-ghost use Rattle.us_top.specs.Commands.{texts, command_of, uses_of};
+ghost use Rattle.std.specs.Prelude.{◌≡◌, ◌↔◌, None, IfSome, false};
+ghost use Rattle.us_top.specs.Commands.{texts, command_of, uses_of, prints};
 ghost use Rattle.us_top.specs.Outcome.{plain};
 ghost use Rattle.us_top.specs.Answers.{IsAnswer, IsCaused, IsPlainOrMemory, NoneRose};
 ghost use Rattle.us_top.specs.Stands.{Stands};
 
 use crate::Status;
 use crate::canon::canon;
+use crate::check::check;
 use crate::command::{Command, command_of};
 use std::alloc::Global;
 use us_outside::Outside;
@@ -25,10 +26,11 @@ pub fn run<O: Outside>(alloc: Global, words: &[String], outside: &mut O) -> Stat
     // What was to be stored stands after `Done`, and up to the failing place after a failed write.
     ensures stands { IfSome (O.files outside.old) (λ fs.
         Stands (plain (command_of (texts words.now)) fs) result fs (O.printed outside.old) (O.files outside.new) (O.printed outside.new)) }
-    ensures printed { O.printed outside.new ≡ O.printed outside.old }
+    ensures printed { prints (command_of (texts words.now)) ≡ false → O.printed outside.new ≡ O.printed outside.old }
 {
     match command_of(words) {
         None => Status::Words,
         Some(Command::Canon { input, output }) => canon(alloc, outside, input, output),
+        Some(Command::Check { formats, shape }) => check(alloc, outside, formats, shape),
     }
 }

@@ -2,10 +2,11 @@
 ghost use Rattle.std.specs.Prelude.{◌≡◌, ◌≤◌, ◌+◌, ◌++◌, length};
 ghost use Rattle.std.specs.Fmt.{decimal};
 ghost use Rattle.arrayvec.specs.ArrayString.{array_string_len};
-ghost use Rattle.us_top.specs.Lines.{slot_word, fault_text, status_line, code_of};
+ghost use Rattle.us_top.specs.Lines.{slot_word, fault_text, formats_text, status_line, code_of};
 
 use arrayvec::ArrayString;
 use itoa::Buffer;
+use us_decl::DeclFault;
 use us_mm::MmFault;
 
 /// The files of a command, by their places in it, and the standard output.
@@ -29,6 +30,8 @@ pub enum Status {
     Words,
     /// The file isn't a matrix file that can be read.
     Matrix { slot: Slot, fault: MmFault },
+    /// The file isn't a library of declarations.
+    Formats(DeclFault),
     /// A fetch of the file failed.
     ReadFault { slot: Slot },
     /// A store of the file, or the print, failed.
@@ -48,6 +51,7 @@ impl Status {
             Status::Done => 0,
             Status::Words => 1,
             Status::Matrix { .. } => 2,
+            Status::Formats(_) => 3,
             Status::ReadFault { .. } => 12,
             Status::WriteFault { .. } => 13,
             Status::TooLong { .. } => 14,
@@ -68,6 +72,10 @@ impl Status {
                 push_slot(&mut line, slot);
                 line.push_str(" ");
                 push_fault(&mut line, fault);
+            }
+            Status::Formats(fault) => {
+                line.push_str("formats ");
+                push_formats_fault(&mut line, fault);
             }
             Status::ReadFault { slot } => {
                 line.push_str("read fault ");
@@ -134,5 +142,18 @@ fn push_fault(line: &mut ArrayString<160>, fault: MmFault)
         }
         MmFault::Extra { line: number } => push_numbered(line, "extra line ", number),
         MmFault::Memory => line.push_str("memory"),
+    }
+}
+
+fn push_formats_fault(line: &mut ArrayString<160>, fault: DeclFault)
+    requires { array_string_len line.old ≤ 30 }
+    ensures { line.new.bytes ≡ line.old.bytes ++ formats_text fault }
+{
+    match fault {
+        DeclFault::Token { place } => push_numbered(line, "token ", place),
+        DeclFault::Form { place } => push_numbered(line, "form ", place),
+        DeclFault::TooBig { place } => push_numbered(line, "too big ", place),
+        DeclFault::Repeated { place } => push_numbered(line, "repeated ", place),
+        DeclFault::Memory => line.push_str("memory"),
     }
 }

@@ -6,7 +6,7 @@ use Rattle.us_top.proofs.input.read_matrix.Goals as goal
 
 pub returns-in-Err-TooLong-clause-plain : goal.returns-in-Err-TooLong-clause-plain
 returns-in-Err-TooLong-clause-plain g c =
-    IfSome_then (g.O.Outside.files c.args.outside.now) (c.in-Err-TooLong.ensures.long (ap Err c.in-Err-TooLong.field-0-is)) (λ fs long. too_long c.args.slot _ long)
+    IfSome_then (g.O.Outside.files c.args.outside.now) (c.in-Err-TooLong.ensures.long (ap Err c.in-Err-TooLong.field-0-is)) (λ fs long. too_long c.args.slot _ _ long)
 
 pub returns-in-Ok-read_coordinate-clause-plain : goal.returns-in-Ok-read_coordinate-clause-plain
 returns-in-Ok-read_coordinate-clause-plain g c =

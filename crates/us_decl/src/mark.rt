@@ -1,0 +1,36 @@
+//! The words and symbols that stand for themselves.
+
+/// A word or a symbol that stands for itself.
+#[derive(Clone, Copy, Debug, PartialEq, Eq)]
+pub enum Mark {
+    Format,
+    Part,
+    When,
+    Rest,
+    Let,
+    Map,
+    Trim,
+    Merge,
+    Pack,
+    Sum,
+    Enumerate,
+    Reorder,
+    Schedule,
+    Into,
+    Val,
+    I,
+    J,
+    Mtx,
+    BraceOpen,
+    BraceClose,
+    Open,
+    Close,
+    Comma,
+    Equal,
+    Plus,
+    Minus,
+    Slash,
+    Percent,
+    Less,
+    AtLeast,
+}

@@ -1,0 +1,13 @@
+pub mod WorkedRefusals
+pub mod Members
+pub mod Reaching
+pub mod Looseness
+pub mod Knowing
+pub mod Apart
+pub mod Verdicts
+pub mod Valid
+pub mod Parsed
+pub mod PartKinds
+pub mod Counting
+pub mod ValidExpressions
+pub mod Accepted

@@ -1,0 +1,19 @@
+-- What a format keeps: a valid declaration that breaks no rule, and the kinds of its levels.
+use Rattle.std.specs.Prelude.{◌≡◌, ℕ, List, [], map, slice_index_or, None}
+use Rattle.us_format.specs.declared.Kind.{Kind}
+use Rattle.us_format.specs.Declaration.{Part, Declaration}
+use Rattle.us_decl.specs.declared.decl.Decl.{Decl}
+use Rattle.us_decl.specs.Declares.{IsValid}
+use Rattle.us_decl.specs.Views.{decl_view}
+use Rattle.us_judge.specs.Acceptance.{first_refusal}
+use Rattle.us_judge.specs.Views.{declaration_of}
+use Rattle.us_judge.specs.Kinds.{kinds_of}
+
+pub record IsFormat (d : Decl) (kinds : List (List Kind)) : Type 0 where
+  pub valid : IsValid (decl_view d)
+  pub accepted : first_refusal (declaration_of (decl_view d)) ≡ None
+  pub kinds_are : kinds ≡ map kinds_of (declaration_of (decl_view d)).parts
+
+-- the part with this number, counted from 0
+abbrev pub part_at : Declaration → ℕ → Part
+part_at d k = slice_index_or d.parts k (record { names = 0; queries = []; levels = []; trim = []; merge = []; packs = [] })

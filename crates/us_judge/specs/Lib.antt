@@ -1,0 +1,10 @@
+pub mod Acceptance
+pub mod Worked
+pub mod Views
+pub mod Variables
+pub mod Short
+pub mod Kinds
+pub mod Causes
+pub mod Buffers
+pub mod Code
+pub mod Format

@@ -1,0 +1,192 @@
+//! Formats: declarations that break no rule.
+ghost use Rattle.std.specs.Prelude.{◌≡◌, ◌<◌, ◌≤◌, [], ◌∷◌, None, map, length, IfOk, OnOk, IfErr};
+ghost use Rattle.us_format.specs.Kinds.{kind};
+ghost use Rattle.us_format.specs.Reading.{total_count};
+ghost use Rattle.us_decl.specs.Declares.{IsValid};
+ghost use Rattle.us_decl.specs.Views.{decl_view};
+ghost use Rattle.us_judge.specs.Acceptance.{first_refusal, parts_refusal};
+ghost use Rattle.us_judge.specs.Causes.{Explains};
+ghost use Rattle.us_judge.specs.Format.{part_at};
+ghost use Rattle.us_judge.specs.Kinds.{kinds_of};
+ghost use Rattle.us_judge.specs.Short.{IsShort, AreShort, IsShortDeclaration};
+ghost use Rattle.us_judge.specs.Views.{declaration_of, plain_part, plain_head, plain_body};
+
+use crate::buffers::buffer_count;
+use crate::head::head_refusal;
+use crate::kinds::{Kinds, copy_kinds};
+use crate::part::{judge_part, refuse};
+use crate::refusal::JudgeFault;
+use sqlite_items::Items;
+use std::alloc::{AllocError, Global};
+use std::marker::Model;
+use us_decl::{Body, Decl, Head, Part};
+use us_format::Kind;
+
+/// A valid declaration that breaks no rule. Contracts see it as what the declaration declares.
+#[derive(Debug, Drop)]
+pub struct Format {
+    decl: Decl,
+    kinds: Items<Kinds>,
+}
+
+impl Model for Format {
+    ghost use Rattle.us_decl.specs.Declares.{Declared};
+    ghost use Rattle.us_decl.specs.Views.{decl_view};
+    ghost use Rattle.us_judge.specs.Code.{declared_code};
+    ghost use Rattle.us_judge.specs.Format.{IsFormat};
+
+    ghost Value = { Declared };
+
+    ghost coded = { declared_code };
+
+    ghost view = { λ f. decl_view f.decl };
+
+    ghost invariant = { λ f. IsFormat f.decl f.kinds };
+}
+
+/// Judges an undivided declaration.
+fn judge_one(alloc: Global, part: &Part) -> Result<Items<Kinds>, JudgeFault>
+    requires { IsShort (plain_part part.now) }
+    ensures kinds { IfOk result (λ kinds. kinds ≡ kinds_of (plain_part part.now) ∷ []) }
+    ensures accepted { OnOk result (first_refusal (plain_body (Body.One part.now)) ≡ None) }
+    ensures refused { IfErr result (λ fault. Explains fault (first_refusal (plain_body (Body.One part.now)))) }
+{
+    let kinds = judge_part(alloc, part, 1)?;
+    let mut all = Items::new(alloc);
+    all.push(kinds)?;
+    Ok(all)
+}
+
+/// Judges the parts of a divided declaration.
+fn judge_parts(alloc: Global, first: &Part, rest: &Part) -> Result<Items<Kinds>, JudgeFault>
+    requires first { IsShort (plain_part first.now) }
+    requires rest { IsShort (plain_part rest.now) }
+    ensures kinds { IfOk result (λ kinds. kinds ≡ kinds_of (plain_part first.now) ∷ kinds_of (plain_part rest.now) ∷ []) }
+    ensures accepted { OnOk result (parts_refusal 1 (plain_part first.now ∷ plain_part rest.now ∷ []) ≡ None) }
+    ensures refused { IfErr result (λ fault. Explains fault (parts_refusal 1 (plain_part first.now ∷ plain_part rest.now ∷ []))) }
+{
+    let first = judge_part(alloc, first, 1)?;
+    let rest = judge_part(alloc, rest, 2)?;
+    let mut all = Items::new(alloc);
+    all.push(first)?;
+    all.push(rest)?;
+    Ok(all)
+}
+
+/// Judges a divided declaration.
+fn judge_two(
+    alloc: Global,
+    head: &Head,
+    first: &Part,
+    rest: &Part,
+) -> Result<Items<Kinds>, JudgeFault>
+    requires head { length head.now.queries ≤ 16 }
+    requires first { IsShort (plain_part first.now) }
+    requires rest { IsShort (plain_part rest.now) }
+    ensures kinds { IfOk result (λ kinds. kinds ≡ kinds_of (plain_part first.now) ∷ kinds_of (plain_part rest.now) ∷ []) }
+    ensures accepted { OnOk result (first_refusal (plain_body (Body.Two head.now first.now rest.now)) ≡ None) }
+    ensures refused { IfErr result (λ fault. Explains fault (first_refusal (plain_body (Body.Two head.now first.now rest.now)))) }
+{
+    refuse(head_refusal(head))?;
+    judge_parts(alloc, first, rest)
+}
+
+/// The kinds of all levels of a declaration, if it breaks no rule.
+fn judge_body(alloc: Global, body: &Body) -> Result<Items<Kinds>, JudgeFault>
+    requires { IsShortDeclaration (plain_body body.now) }
+    ensures kinds { IfOk result (λ kinds. kinds ≡ map kinds_of (plain_body body.now).parts) }
+    ensures accepted { OnOk result (first_refusal (plain_body body.now) ≡ None) }
+    ensures refused { IfErr result (λ fault. Explains fault (first_refusal (plain_body body.now))) }
+{
+    match body {
+        Body::One(part) => judge_one(alloc, part),
+        Body::Two { head, first, rest } => judge_two(alloc, head, first, rest),
+    }
+}
+
+/// The kinds of all levels of a valid declaration, if it breaks no rule.
+fn judge_declaration(alloc: Global, decl: &Decl) -> Result<Items<Kinds>, JudgeFault>
+    requires { IsValid (decl_view decl.now) }
+    ensures kinds { IfOk result (λ kinds. kinds ≡ map kinds_of (declaration_of (decl_view decl.now)).parts) }
+    ensures accepted { OnOk result (first_refusal (declaration_of (decl_view decl.now)) ≡ None) }
+    ensures refused { IfErr result (λ fault. Explains fault (first_refusal (declaration_of (decl_view decl.now)))) }
+{
+    judge_body(alloc, &decl.body)
+}
+
+/// The format of a valid declaration, if it breaks no rule; else the first part that breaks one, the lowest rule that
+/// it breaks and the first item that breaks this rule. There is no other way to make a format.
+pub fn judge(alloc: Global, decl: Decl) -> Result<Format, JudgeFault>
+    requires { IsValid (decl_view decl) }
+    ensures is { IfOk result (λ f. f ≡ decl_view decl) }
+    ensures accepted { OnOk result (first_refusal (declaration_of (decl_view decl)) ≡ None) }
+    ensures refused { IfErr result (λ fault. Explains fault (first_refusal (declaration_of (decl_view decl)))) }
+{
+    let kinds = judge_declaration(alloc, &decl)?;
+    Ok(Format { decl, kinds })
+}
+
+/// How many buffers the parts of a body have, whose levels have these kinds.
+fn count_all(body: &Body, kinds: &[Kinds]) -> usize
+    requires kinds { kinds.now ≡ map kinds_of (plain_body body.now).parts }
+    requires short { AreShort (plain_body body.now).parts }
+    ensures { result ≡ total_count (plain_body body.now) }
+{
+    match body {
+        Body::One(part) => buffer_count(part, kinds[0].as_slice()),
+        Body::Two { first, rest, .. } => {
+            buffer_count(first, kinds[0].as_slice()) + buffer_count(rest, kinds[1].as_slice())
+        }
+    }
+}
+
+impl Format {
+    /// The declaration.
+    pub fn decl(&self) -> &Decl
+        ensures is { decl_view result.now ≡ self.now }
+        ensures valid { IsValid self.now }
+        ensures accepted { first_refusal (declaration_of self.now) ≡ None }
+    {
+        &self.decl
+    }
+
+    /// How many parts there are: one, or two of a divided declaration.
+    pub fn parts(&self) -> usize
+        ensures { result ≡ length (declaration_of self.now).parts }
+    {
+        self.kinds.len()
+    }
+
+    /// How many levels a part has, the parts being counted from 0.
+    pub fn levels(&self, part: usize) -> usize
+        requires { part < length (declaration_of self.now).parts }
+        ensures { result ≡ length (part_at (declaration_of self.now) part).levels }
+    {
+        self.kinds.as_slice()[part].len()
+    }
+
+    /// The kind of a level of a part, both counted from 0.
+    pub fn kind(&self, part: usize, level: usize) -> Kind
+        requires part { part < length (declaration_of self.now).parts }
+        requires level { level < length (part_at (declaration_of self.now) part).levels }
+        ensures { result ≡ kind (part_at (declaration_of self.now) part) level }
+    {
+        self.kinds.as_slice()[part].as_slice()[level]
+    }
+
+    /// How many buffers the format has.
+    pub fn buffers(&self) -> usize
+        ensures { result ≡ total_count (declaration_of self.now) }
+    {
+        count_all(&self.decl.body, self.kinds.as_slice())
+    }
+
+    /// An equal format.
+    pub fn copy(&self, alloc: Global) -> Result<Format, AllocError>
+        ensures { IfOk result (λ f. f ≡ self.now) }
+    {
+        let kinds = copy_kinds(alloc, self.kinds.as_slice())?;
+        let decl = self.decl.copy(alloc)?;
+        Ok(Format { decl, kinds })
+    }
+}

@@ -1,0 +1,24 @@
+//! Which declarations are accepted: each has a first reason why it is not, or it is a format.
+//!
+//! The rules stand in `specs/Acceptance.antt`, over a declaration as plain data.
+#![tactic(auto)]
+
+mod buffers;
+mod format;
+mod head;
+mod kinds;
+mod laws;
+mod level_ranges;
+mod packs;
+mod part;
+mod refusal;
+mod rules;
+mod variables;
+
+pub use format::{Format, judge};
+pub use laws::worked_refusals;
+pub use refusal::{JudgeFault, Refusal};
+pub use us_format::Kind;
+
+#[cfg(test)]
+mod tests;
