@@ -120,6 +120,7 @@ module _ (earlier : List (List ℕ)) (old t1 : Text Lexeme) (room : length earli
       decl_goes new body decl g a c = record {
         text = record { name = n; body = g.text };
         view = same_decl decl.name n (body_view decl.body) (body_of g.text) a (ap body_view c ∙ g.view);
+        is_new = ap (λ (w : List ℕ). is_among w earlier) a ∙ new_;
         ends = g.ends;
         goes = to_body ∙ g.goes n t.1 earlier ∙ step_done earlier new (after new) (Fixed mark.BraceClose) (before_end n g.text) (record { name = n; body = g.text }) (took_of new (Fixed mark.BraceClose) (fixed_lead mark.BraceClose (lead new) g.ends)) (end_step g.text) (end_checks g.text (g.fits n t.1));
       }

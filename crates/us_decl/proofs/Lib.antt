@@ -19,11 +19,3 @@ pub mod Places
 pub mod Declaring
 pub mod Texts
 pub mod Valid
-pub mod Known
-pub mod Plain
-pub mod CanonTokens
-pub mod Kept
-pub mod RoundTrip
-pub mod Printed
-pub mod ViewTells
-pub mod ParseBack

@@ -15,5 +15,3 @@ pub mod ReadsParts
 pub mod ReadsBodies
 pub mod ReadsDecls
 pub mod Parses
-pub mod Canon
-pub mod ReadBack

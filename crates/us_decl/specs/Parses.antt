@@ -65,7 +65,7 @@ are_distinct (Then ds d) = are_distinct ds && not (is_among d.name (names_of ds)
 pub record TellsLibrary (library : Library) (a : Answer Lexeme (Run Decl) Break) : Type 0 where
   pub text : Run Decl
   pub is : a ≡ Whole text
-  pub view : map decl_view library.decls ≡ map declared (run_items text)
+  pub view : map decl_view library ≡ map declared (run_items text)
   pub fits : all_run fits_decl text ≡ true
   pub distinct : are_distinct text ≡ true
 
@@ -132,5 +132,5 @@ pub record GoesLibrary (old new : Text Lexeme) (decls : List decls.Decl) : Type 
   pub goes : scan library_reader old (Closed Empty) ≡ scan library_reader new (Closed text)
 
 abbrev pub ReadsLibrary : List ℕ → Result Library Stop → Type 0
-ReadsLibrary bytes (Ok library) = (new : Text Lexeme) × GoesLibrary (tokens_of bytes) new library.decls × (is_end new ≡ true)
+ReadsLibrary bytes (Ok library) = (new : Text Lexeme) × GoesLibrary (tokens_of bytes) new library × (is_end new ≡ true)
 ReadsLibrary bytes (Err r) = IsLibraryAnswer (tokens_of bytes) (library_answer r) × (left_at r ≤ length bytes)

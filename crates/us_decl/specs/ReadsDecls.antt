@@ -15,7 +15,7 @@ use Rattle.us_decl.specs.Grammar.{Run, Empty, Query, Part, Head, Body, Whole, Sp
 use Rattle.us_decl.specs.Piece.{Piece, Before, BehindName, Between, Tail, AtFirst, AtEnd, AtFormat, expect, step, finished}
 use Rattle.us_decl.specs.Names.{names_queries, names_part, names_head}
 use Rattle.us_decl.specs.Limits.{fits_name}
-use Rattle.us_decl.specs.Within.{Break, fits, fits_before, fits_front}
+use Rattle.us_decl.specs.Within.{Break, fits, fits_before, fits_front, is_among}
 use Rattle.us_decl.specs.Declares.{query_of, run_items, declared}
 use Rattle.us_decl.specs.Declares as declares
 use Rattle.us_decl.specs.Machine.{reader, done}
@@ -95,6 +95,7 @@ IsAnswer earlier old (Some x) = scan (reader earlier) old AtFormat ≡ x
 pub record GoesDecl (earlier : List (List ℕ)) (old new : Text Lexeme) (decl : decls.Decl) : Type 0 where
   pub text : Decl
   pub view : decl_view decl ≡ declared text
+  pub is_new : is_among decl.name earlier ≡ false
   pub ends : is_fixed mark.BraceClose (lead new) ≡ true
   pub goes : scan (reader earlier) old AtFormat ≡ Read text (behind_of new) (after new)
 

@@ -1,7 +1,5 @@
 -- The declaration that a value of the program holds.
-use Rattle.std.specs.Prelude.{List, map, ℕ, not}
-use Rattle.std.specs.List.{prefix_len}
-use Rattle.us_decl.specs.Names.{same_name}
+use Rattle.std.specs.Prelude.{List, map, ℕ}
 use Rattle.us_expr.specs.Tree.{tree}
 use Rattle.us_expr.specs.declared.queries.Query as asked
 use Rattle.us_expr.specs.declared.queries.Query.TheVariants as query
@@ -47,7 +45,3 @@ decl_view d = record { name = d.name; body = body_view d.body }
 -- the names of declarations, in order
 abbrev pub decl_names : List Decl → List (List ℕ)
 decl_names ds = map (λ d. d.name) ds
-
--- how many declarations stand before that of a name: all of them if there is none
-abbrev pub place : List ℕ → List Decl → ℕ
-place w ds = prefix_len (λ d. not (same_name w d.name)) ds

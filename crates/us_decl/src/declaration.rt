@@ -100,7 +100,7 @@ impl Reader<'_> {
     /// A declaration, up to its last brace, behind those of a library.
     pub fn declaration(&mut self, earlier: &Library) -> Result<Decl, Stop>
         requires { self.old.names ≡ [] }
-        ensures { ReadsDecl (decl_names earlier.now.decls) (text_of self.old.cursor) (text_of self.new.cursor) result }
+        ensures { ReadsDecl (decl_names earlier.now) (text_of self.old.cursor) (text_of self.new.cursor) result }
     {
         let beyond = excess(&self.cursor);
         expect(&mut self.cursor, Mark::Format)?;

@@ -14,7 +14,6 @@ mod name;
 mod parsed;
 mod parsing;
 mod parts;
-mod printing;
 mod queries;
 mod reading;
 mod stop;
@@ -31,9 +30,6 @@ pub use mark::Mark;
 pub use name::Name;
 pub use parsed::{DeclFault, OneDecl};
 pub use parsing::{parse_library, parse_one};
-pub use printing::{
-    canonical_text_reads_back, canonical_texts_differ, parse_one_reads_back, print_decl,
-};
 
 #[cfg(test)]
 mod tests;

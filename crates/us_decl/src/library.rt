@@ -1,83 +1,86 @@
 //! Declarations in order.
 
-ghost use Rattle.std.specs.Prelude.{◌≡◌, ◌<◌, ◌≤◌, [], ◌∷◌, ◌++◌, length, MatchOption, OnOk, slice_get, Some};
+ghost use Rattle.std.specs.Prelude.{◌≡◌, ◌<◌, [], ◌∷◌, ◌++◌, false, length, MatchOption, OnOk, slice_get, Some};
 ghost use Rattle.us_decl.specs.Names.{number_of};
 ghost use Rattle.us_decl.specs.Within.{is_among};
-ghost use Rattle.us_decl.specs.Views.{decl_names, place};
+ghost use Rattle.us_decl.specs.Views.{decl_names};
 
 use crate::decl::Decl;
-use crate::lexeme::is_same_name;
 use crate::name::Name;
-use sqlite_items::Items;
+use indexmap::IndexMap;
 use std::alloc::{AllocError, Global};
+use std::marker::Model;
 
-/// Declarations in order, no two of one name.
+/// Declarations in order, no two of one name. Contracts see it as their list.
 #[derive(Debug, Drop)]
 pub struct Library {
-    decls: Items<Decl>,
+    decls: IndexMap<String, Decl>,
+}
+
+impl Model for Library {
+    ghost use Rattle.std.specs.Prelude.{◌≡◌, List, map, string_bytes};
+    ghost use Rattle.indexmap.specs.IndexMap.{keys, values};
+    ghost use Rattle.us_decl.specs.declared.decl.Decl.{Decl};
+    ghost use Rattle.us_decl.specs.Views.{decl_names};
+
+    ghost Value = { List Decl };
+
+    ghost use Rattle.std.specs.Coded.{codes};
+    ghost use Rattle.us_expr.specs.contracts.expression.Expr as expr;
+
+    ghost coded = { Prim.hlevel (codes, expr.the_row.coded) };
+
+    ghost view = { λ l. values l.decls };
+
+    ghost invariant = { λ l. map string_bytes (keys l.decls) ≡ decl_names (values l.decls) };
 }
 
 impl Library {
     /// No declaration.
     pub(crate) fn new(alloc: Global) -> Library
-        ensures { result.decls ≡ [] }
+        ensures { result ≡ [] }
     {
         Library {
-            decls: Items::new(alloc),
+            decls: IndexMap::new(alloc),
         }
     }
 
     /// How many declarations there are.
     pub fn count(&self) -> usize
-        ensures { result ≡ length self.now.decls }
+        ensures { result ≡ length self.now }
     {
         self.decls.len()
     }
 
     /// The place of the declaration of this name, if there is one.
-    #[tactic(auto, using(crate::proofs::Places::place_is_number))]
     pub fn find(&self, name: &str) -> Option<usize>
-        ensures { MatchOption result (number_of name.now (decl_names self.now.decls) ≡ length self.now.decls) (λ k. (k ≡ number_of name.now (decl_names self.now.decls)) × (k < length self.now.decls)) }
+        ensures { MatchOption result (number_of name.now (decl_names self.now) ≡ length self.now) (λ k. (k ≡ number_of name.now (decl_names self.now)) × (k < length self.now)) }
     {
-        let place = place_of(name.as_bytes(), self.decls.as_slice());
-        if place < self.decls.len() {
-            Some(place)
-        } else {
-            None
-        }
+        self.decls.get_index_of(name)
     }
 
     /// Whether there is a declaration of this name.
     pub(crate) fn has(&self, name: &Name) -> bool
-        ensures { result ≡ is_among name.now (decl_names self.now.decls) }
+        ensures { result ≡ is_among name.now (decl_names self.now) }
     {
-        let place = place_of(name.as_str().as_bytes(), self.decls.as_slice());
-        place < self.decls.len()
+        self.find(name.as_str()).is_some()
     }
 
     /// The declaration at a place.
     pub fn at(&self, k: usize) -> &Decl
-        requires { k < length self.now.decls }
-        ensures { slice_get self.now.decls k ≡ Some result.now }
+        requires { k < length self.now }
+        ensures { slice_get self.now k ≡ Some result.now }
     {
-        &self.decls.as_slice()[k]
+        &self.decls[k]
     }
 
-    /// One more declaration.
+    /// One more declaration, of a new name.
     pub(crate) fn push(&mut self, decl: Decl) -> Result<(), AllocError>
-        ensures { OnOk result (self.new.decls ≡ self.old.decls ++ decl ∷ []) }
+        requires { is_among decl.name (decl_names self.old) ≡ false }
+        ensures { OnOk result (self.new ≡ self.old ++ decl ∷ []) }
     {
-        self.decls.push(decl)
+        let name = String::from_str(*self.decls.allocator(), decl.name.as_str())?;
+        self.decls.insert(name, decl)?;
+        Ok(())
     }
-}
-
-/// How many declarations stand before that of a name: all of them if there is none.
-fn place_of(name: &[u8], decls: &[Decl]) -> usize
-    ensures value { result ≡ place name.now decls.now }
-    ensures within { result ≤ length decls.now }
-{
-    decls
-        .iter()
-        .take_while(|decl| !is_same_name(name, decl.name.as_str().as_bytes()))
-        .count()
 }

@@ -13,7 +13,9 @@ use crate::stop::Stop;
 use std::alloc::Global;
 use us_tokens::{Cursor, Next};
 
-/// Reads one declaration from a place on. No byte behind its closing brace is read.
+/// Reads one declaration from a place on. Behind each symbol, the last brace too, one byte is looked
+/// at, to see whether the two make a longer symbol. None of these begins with a brace, so the answer
+/// doesn't turn on what stands behind the declaration.
 pub fn parse_one(alloc: Global, bytes: &[u8], from: usize) -> Result<OneDecl, DeclFault>
     requires { from ≤ length bytes.now }
     ensures { ParsesOne bytes.now from result }

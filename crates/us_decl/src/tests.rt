@@ -201,6 +201,7 @@ fn a_library_has_256_declarations(rt: HostRuntime) -> Result<(), Fail> {
     push_declarations(alloc, &mut text, 256)?;
     let library = parse_library(alloc, text.as_slice())?;
     assert_eq!(rt; library.count(), 256);
+    assert_eq!(rt; library.find("a255"), Some(255));
     let place = text.len() as u64;
     text.extend_from_slice(b"format b { map () }")?;
     assert_eq!(rt;

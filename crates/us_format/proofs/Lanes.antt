@@ -1,14 +1,19 @@
 -- Each index is put into a lane.
-use Rattle.std.proofs.Common.{◌≡◌, ℕ, zero, suc, ◌<◌, ◌≤◌, ◌⊎◌, List, [], ◌∷◌, ◌++◌, map, length, Bool, true, false, cond, eqb, ltb, sym, refl, ap, ◌∙◌, subst, inl, inr, arith, fold, max, eq-eqb}
+use Rattle.std.proofs.Common.{◌≡◌, ℕ, zero, suc, ◌<◌, ◌≤◌, ◌⊎◌, List, [], ◌∷◌, ◌++◌, map, length, ◌+◌, ◌*◌, Bool, true, false, cond, All, eqb, ltb, sym, refl, ap, ◌∙◌, subst, inl, inr, arith, fold, max, eq-eqb}
 use Rattle.std.proofs.lemmas.Bool.{or_cases, or_left, or_right, false≢true}
-use Rattle.std.specs.List.{range_with_len, list_any}
+use Rattle.std.specs.List.{range_with_len, list_any, sum_by}
+use Rattle.std.proofs.Math.ListN.{length-append, length-map}
+use Rattle.std.proofs.lemmas.List.{get_or-map}
+use Rattle.std.proofs.lemmas.List.Sums.{sum_by-cons, sum_by-le}
+use Rattle.std.proofs.lemmas.List.FromFn.{length-range_with_len}
 use Rattle.us_expr.specs.declared.queries.Axis.{Axis}
 use Rattle.us_format.specs.Lists.{among}
 use Rattle.us_format.specs.Matrix.{Entry, Shape, indices}
-use Rattle.us_format.specs.Queries.{load, least, least_load, put_in, empty_lanes, lanes_of}
+use Rattle.us_format.specs.Queries.{load, least, least_load, put_in, empty_lanes, lanes_of, schedule_extent}
 use Rattle.us_format.proofs.Order.{Mem, Mem-of_map}
 use Rattle.us_format.proofs.Members.{Mem-right}
 use Rattle.us_format.proofs.Collect.{Mem-among, range-Mem}
+use Rattle.us_format.proofs.Queries.{fold-max-at}
 
 pub Mem-greatest : (a n : ℕ) (xs : List ℕ) → Mem n xs → n ≤ fold max a xs
 Mem-greatest a n [] h = absurd h
@@ -105,3 +110,41 @@ module _ (m : List Entry) (axis : Axis) where
   pub lanes-there : (s : Shape) (n a : ℕ) → 0 < n → a < indices axis s → list_any (among a) (lanes_of m s axis n) ≡ true
   lanes-there s n a h l =
       turns-there (range_with_len 0 (indices axis s)) (empty_lanes n) a (subst (λ (k : ℕ). 0 < k) (sym (empty-length n)) h) (range-Mem 0 (indices axis s) a (omega arith) (omega (arith, l)))
+
+  -- ---- how many indices there are in the lanes
+
+  pub put-total : (low a : ℕ) (lanes : List (List ℕ)) (l : List ℕ) → Mem l lanes → load m axis l ≡ low → sum_by length (put_in m axis low a lanes) ≡ suc (sum_by length lanes)
+  put-total low a [] l h e = absurd h
+  put-total low a (lane ∷ lanes) l h e = go (eqb (load m axis lane) low) refl h (λ k. put-total low a lanes l k e)
+    where
+      go : (t : Bool) → eqb (load m axis lane) low ≡ t → Mem l (lane ∷ lanes) → (Mem l lanes → sum_by length (put_in m axis low a lanes) ≡ suc (sum_by length lanes))
+          → sum_by length (cond t ((lane ++ a ∷ []) ∷ lanes) (lane ∷ put_in m axis low a lanes)) ≡ suc (sum_by length (lane ∷ lanes))
+      go true q k ih = rw (sum_by-cons length (lane ++ a ∷ []) lanes, sum_by-cons length lane lanes, length-append lane (a ∷ [])) (omega arith)
+      go false q (inl k) ih = absurd (false≢true (sym q ∙ eq-eqb (load m axis lane) low (ap (load m axis) k ∙ e)))
+      go false q (inr k) ih = rw (sum_by-cons length lane (put_in m axis low a lanes), sum_by-cons length lane lanes, ih k) (omega arith)
+
+  pub turn-total : (lanes : List (List ℕ)) (a : ℕ) → 0 < length lanes → sum_by length (turn lanes a) ≡ suc (sum_by length lanes)
+  turn-total [] a h = absurd (omega (arith, h))
+  turn-total (lane ∷ lanes) a h =
+      let r = Mem-of_map (load m axis) (least_load m axis (lane ∷ lanes)) (lane ∷ lanes) (least-Mem (map (load m axis) lanes) (load m axis lane)) in
+      put-total (least_load m axis (lane ∷ lanes)) a (lane ∷ lanes) r.0 r.1 r.2
+
+  pub turns-total : (xs : List ℕ) (lanes : List (List ℕ)) → 0 < length lanes → sum_by length (fold turn lanes xs) ≡ length xs + sum_by length lanes
+  turns-total [] lanes h = omega arith
+  turns-total (x ∷ xs) lanes h =
+      turns-total xs (turn lanes x) (subst (λ (n : ℕ). 0 < n) (sym (put-length (least_load m axis lanes) x lanes)) h) ∙ rw (turn-total lanes x h) (omega arith)
+
+  -- there are as many places in the lanes as indices, or more
+  pub lanes-hold : (s : Shape) (n : ℕ) → 0 < n → indices axis s ≤ n * schedule_extent m s axis n
+  lanes-hold s n h =
+      omega (
+        arith,
+        turns-total (range_with_len 0 (indices axis s)) (empty_lanes n) (subst (λ (k : ℕ). 0 < k) (sym (empty-length n)) h),
+        length-range_with_len 0 (indices axis s),
+        subst (λ (k : ℕ). sum_by length (lanes_of m s axis n) ≤ k * schedule_extent m s axis n) (lanes-length s n) (sum_by-le length (schedule_extent m s axis n) (lanes_of m s axis n) each),
+      )
+    where
+      each : All (λ l. length l ≤ schedule_extent m s axis n) (lanes_of m s axis n)
+      each k d l =
+          subst (λ (z : ℕ). z ≤ schedule_extent m s axis n) (get_or-map length (lanes_of m s axis n) k d 0 l)
+          (fold-max-at 0 (map length (lanes_of m s axis n)) k 0 (rw (length-map (lanes_of m s axis n) length) l))

@@ -36,7 +36,7 @@ use Rattle.us_format.proofs.Queries.{rank-tells, rank-below, order-is, enumerate
 use Rattle.us_format.proofs.Agree.{Tellers, InRanges, Sound, all-tell}
 use Rattle.us_format.proofs.RecoverLaw.{IsFound}
 use Rattle.us_format.proofs.PartLaw.{top-placed, top-slots, take-whole}
-use Rattle.us_format.proofs.PartMeaning.{found_of, part-meaning}
+use Rattle.us_format.proofs.PartMeaning.{found_of, IsMatrix, part-meaning}
 use Rattle.us_format.proofs.Ascending.{ascending, lower-next}
 
 -- ---- what holds of a whole holds of its parts
@@ -379,15 +379,17 @@ module _ (s : Shape) (p : Part) (m : List Entry) (la : IsLawful p) (im : IsMatri
           → cell (nth tables q) (nat_of (value_at m s p x l) * get_or (extents_of m s p) q 0 + nat_of (value_at m s p x u)) ≡ cell (written (table_buffer m s r)) (a * e + b)
       at_place q r l u a b e he ht hl hu = rw (he, ht, hl, hu) refl
 
+pub is-matrix : (s : Shape) (p : Part) (m : List Entry) (la : IsLawful p) (im : IsMatrixOf s m) → IsMatrix m s p (sound s p m la im) (tables s p m la im)
+is-matrix s p m la im = record {
+  sorted = row-major m im.sorted;
+  rows = row-below s p m la im;
+  cols = col-below s p m la im;
+  nonzero = λ x mx. all-Mem (λ y. is_zero y.v ≡ false) m x im.nonzero mx;
+  found = found s p m la im;
+}
+
 pub meaning-is-matrix : MeaningIsMatrix
-meaning-is-matrix s p m la im =
-    part-meaning m s p (sound s p m la im) (tables s p m la im) (record {
-      sorted = row-major m im.sorted;
-      rows = row-below s p m la im;
-      cols = col-below s p m la im;
-      nonzero = λ x mx. all-Mem (λ y. is_zero y.v ≡ false) m x im.nonzero mx;
-      found = found s p m la im;
-    })
+meaning-is-matrix s p m la im = part-meaning m s p (sound s p m la im) (tables s p m la im) (is-matrix s p m la im)
 
 pub positions-ascend : PositionsAscend
 positions-ascend = record {

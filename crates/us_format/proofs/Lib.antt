@@ -22,3 +22,12 @@ pub mod Lanes
 pub mod Lookup
 pub mod Lawful
 pub mod Sizes
+pub mod Pieces
+pub mod Places
+pub mod Shares
+pub mod Fits
+pub mod Whole
+pub mod PackSizes
+pub mod Shuffled
+pub mod FromProgram
+pub mod Planned

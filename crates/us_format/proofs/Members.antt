@@ -22,6 +22,11 @@ all-Mem P [] x h m = absurd m
 all-Mem P (y ∷ ys) x h (inl e) = subst P e (h 0 y (omega arith))
 all-Mem P (y ∷ ys) x h (inr m) = all-Mem P ys x (λ k d l. h (suc k) d (omega (arith, l))) m
 
+pub Mem-all : {A : Type 0} (P : A → Type 0) (xs : List A) → ((x : A) → Mem x xs → P x) → All P xs
+Mem-all P [] h k d l = absurd (omega (arith, l))
+Mem-all P (x ∷ xs) h zero d l = h x (inl refl)
+Mem-all P (x ∷ xs) h (suc k) d l = Mem-all P xs (λ y m. h y (inr m)) k d (omega (arith, l))
+
 pub item-Mem : {A : Type 0} (xs : List A) (k : ℕ) (x : A) → slice_get xs k ≡ Some x → Mem x xs
 item-Mem [] k x h = absurd (cc)
 item-Mem (y ∷ ys) zero x h = inl (cc)

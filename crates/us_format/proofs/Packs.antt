@@ -1,5 +1,5 @@
 -- What is read back from a pack is the columns that went in.
-use Rattle.std.proofs.Common.{◌≡◌, ℕ, zero, suc, ◌+◌, ◌*◌, ◌/◌, ◌<◌, List, [], ◌∷◌, map, length, get_or, ℤ, sym, refl, ap, ◌∙◌, inl, inr, arith, sum_by, mul-le-mul_right, mul_comm}
+use Rattle.std.proofs.Common.{◌≡◌, ℕ, zero, suc, ◌+◌, ◌*◌, ◌/◌, ◌<◌, List, [], ◌∷◌, map, length, get_or, ℤ, sym, refl, ap, ap₂, ◌∙◌, inl, inr, arith, sum_by, mul-le-mul_right, mul_comm}
 use Rattle.std.specs.List.{range_with_len}
 use Rattle.std.proofs.lemmas.List.Sums.{sum_by-cons}
 use lib.Arith.{digits_div, digits_mod}
@@ -32,9 +32,9 @@ pack-cell m cs x y h ly lx =
     cell-written (interleaved cs) (x * length cs + y) (rw (long-sum m cs h) (omega (arith, mul-le-mul_right (length cs) lx, mul_comm m (length cs))))
     ∙ rw (digits_mod x ly, digits_div x ly) refl
 
-pub same-map : {B : Type 0} (f g : ℕ → B) (xs : List ℕ) → ((x : ℕ) → Mem x xs → f x ≡ g x) → map f xs ≡ map g xs
+pub same-map : {A B : Type 0} (f g : A → B) (xs : List A) → ((x : A) → Mem x xs → f x ≡ g x) → map f xs ≡ map g xs
 same-map f g [] h = refl
-same-map f g (x ∷ xs) h = let p : f x ≡ g x = h x (inl refl) in let q : map f xs ≡ map g xs = same-map f g xs (λ y m. h y (inr m)) in cc
+same-map f g (x ∷ xs) h = ap₂ (λ y ys. y ∷ ys) (h x (inl refl)) (same-map f g xs (λ y m. h y (inr m)))
 
 pub whole : (m n : ℕ) → 0 < n → (m * n + 0) / n ≡ m
 whole m n h = digits_div m h

@@ -1,7 +1,7 @@
 -- The meaning of the buffers of a part is its entries.
 use Rattle.std.specs.Prelude.{Ok}
 use Rattle.us_format.specs.Coordinates.{coordinates}
-use Rattle.std.proofs.Common.{filter, eqb, eqb-true, eq-eqb, ◌≡◌, ℕ, ◌+◌, ◌<◌, ◌⊎◌, List, [], ◌∷◌, map, length, Bool, true, false, ℤ, sym, refl, ap, ◌∙◌, subst, inl, inr, arith, Some, lt-ltb}
+use Rattle.std.proofs.Common.{filter, eqb, eqb-true, eq-eqb, ◌≡◌, ℕ, ◌<◌, ◌⊎◌, List, [], ◌∷◌, map, length, Bool, true, false, ℤ, sym, refl, ap, ◌∙◌, subst, inl, inr, arith, Some, lt-ltb}
 use Rattle.std.proofs.lemmas.Bool.{cases_eq}
 use Rattle.std.specs.List.{range_with_len}
 use Rattle.us_format.proofs.Order.{Mem, Mem-map, Mem-of_map}
@@ -85,32 +85,40 @@ module _ (m : List Entry) (s : Shape) (p : Part) (so : Sound m s p) (tables : Li
         lt-ltb e.j s.cols (im.cols e me),
       ) refl
 
+  -- the positions of entries are below the number of values
+  pub place-below : (y : Entry) → Mem y m → place_of y < length (values ls bufs)
+  place-below y my = rw (values-length ls 1 (rows_of m s p)) (last-below ls 1 (rows_of m s p) (row_of m s p y) (top-placed m s p so) (top-slots m s p so) (row-in y my))
+
+  -- at a position either nothing is read and no entry stands there, or the one entry is read
+  abbrev pub ReadsAt : ℕ → Type 0
+  ReadsAt y =
+      ((is_zero (cell (values ls bufs) y) ≡ true) × ((e : Entry) → Mem e m → place_of e ≡ y → ⊥))
+      ⊎ ((is_zero (cell (values ls bufs) y) ≡ false) × ((e : Entry) × Mem e m × (place_of e ≡ y) × (entry_at s p held y ≡ Some e)))
+
+  pub reads-at : IsMatrix → (y : ℕ) → y < length (values ls bufs) → ReadsAt y
+  reads-at im y h = at (look m y)
+    where
+      at : (((e : Entry) × Mem e m × (place_of e ≡ y)) ⊎ ((e : Entry) → Mem e m → place_of e ≡ y → ⊥)) → ReadsAt y
+      at (inl f) =
+          inr (
+            subst (λ (z : ℕ). is_zero (cell (values ls bufs) z) ≡ false) f.2
+                (ap is_zero (value-there ls 1 (rows_of m s p) (row_of m s p f.0) (top-placed m s p so) (top-slots m s p so) (row-in f.0 f.1)) ∙ im.nonzero f.0 f.1),
+            (f.0, f.1, f.2, subst (λ (z : ℕ). entry_at s p held z ≡ Some f.0) f.2 (reads im f.0 f.1)),
+          )
+      at (inr n) =
+          let l : y < last_count ls 1 (rows_of m s p) = omega (arith, h, values-length ls 1 (rows_of m s p)) in
+          inl (ap is_zero (no-value ls 1 (rows_of m s p) y l (λ r mr q. let a = Mem-of_map (row_of m s p) r m mr in n a.0 a.1 (ap (last_place ls (rows_of m s p)) a.2 ∙ q))), n)
+
   pub part-meaning : IsMatrix → part_meaning s p held ≡ Some m
   part-meaning im =
       ap entries_of
       (subst (λ (l : List Entry). collect skip (entry_at s p held) xs l ≡ Ok (filter (λ y. among (place_of y) xs) m)) (filter-none m)
-      (collect-is eqb (λ a b h. eqb-true a b h) (λ a. eq-eqb a a refl) skip (entry_at s p held) place_of m im.sorted one-place xs (λ _. false) (λ y my. at y my (look m y)) (range-distinct 0 (length (values ls bufs))) (λ y my k. refl)))
-      ∙ ap Some (filter-all (λ y. among (place_of y) xs) m (λ y my. Mem-among (place_of y) xs (range-Mem 0 (length (values ls bufs)) (place_of y) (omega arith) (below y my))))
+      (collect-is eqb (λ a b h. eqb-true a b h) (λ a. eq-eqb a a refl) skip (entry_at s p held) place_of m im.sorted one-place xs (λ _. false)
+      (λ y my. reads-at im y (omega (arith, (Mem-range 0 (length (values ls bufs)) y my).1))) (range-distinct 0 (length (values ls bufs))) (λ y my k. refl)))
+      ∙ ap Some (filter-all (λ y. among (place_of y) xs) m (λ y my. Mem-among (place_of y) xs (range-Mem 0 (length (values ls bufs)) (place_of y) (omega arith) (omega (arith, place-below y my)))))
     where
       skip : ℕ → Bool
       skip x = is_zero (cell (values ls bufs) x)
 
       xs : List ℕ
       xs = range_with_len 0 (length (values ls bufs))
-
-      below : (y : Entry) → Mem y m → place_of y < 0 + length (values ls bufs)
-      below y my = rw (values-length ls 1 (rows_of m s p)) (omega (arith, last-below ls 1 (rows_of m s p) (row_of m s p y) (top-placed m s p so) (top-slots m s p so) (row-in y my)))
-
-      at : (y : ℕ) → Mem y (range_with_len 0 (length (values ls bufs))) → (((e : Entry) × Mem e m × (place_of e ≡ y)) ⊎ ((e : Entry) → Mem e m → place_of e ≡ y → ⊥))
-          → ((is_zero (cell (values ls bufs) y) ≡ true) × ((e : Entry) → Mem e m → place_of e ≡ y → ⊥))
-          ⊎ ((is_zero (cell (values ls bufs) y) ≡ false) × ((e : Entry) × Mem e m × (place_of e ≡ y) × (entry_at s p held y ≡ Some e)))
-      at y my (inl f) =
-          let e : Entry = f.0 in
-          inr (
-            subst (λ (z : ℕ). is_zero (cell (values ls bufs) z) ≡ false) f.2
-                (ap is_zero (value-there ls 1 (rows_of m s p) (row_of m s p f.0) (top-placed m s p so) (top-slots m s p so) (row-in f.0 f.1)) ∙ im.nonzero f.0 f.1),
-            (f.0, f.1, f.2, subst (λ (z : ℕ). entry_at s p held z ≡ Some f.0) f.2 (reads im f.0 f.1)),
-          )
-      at y my (inr n) =
-          let l : y < last_count ls 1 (rows_of m s p) = omega (arith, (Mem-range 0 (length (values ls bufs)) y my).1, values-length ls 1 (rows_of m s p)) in
-          inl (ap is_zero (no-value ls 1 (rows_of m s p) y l (λ r mr q. let a = Mem-of_map (row_of m s p) r m mr in n a.0 a.1 (ap (last_place ls (rows_of m s p)) a.2 ∙ q))), n)

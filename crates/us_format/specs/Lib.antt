@@ -1,5 +1,6 @@
 pub mod Lists
 pub mod Matrix
+pub mod Program
 pub mod Declaration
 pub mod Known
 pub mod Queries

@@ -5,8 +5,8 @@ use Rattle.us_expr.specs.declared.ranges.Range.{Range}
 use Rattle.us_expr.specs.Tree.{Tree, RowIndex, ColIndex}
 use Rattle.us_format.specs.Lists.{then_do, or_else, nth, cell, nat_of}
 use Rattle.us_format.specs.Matrix.{Shape}
-use Rattle.us_format.specs.Declaration.{Part}
-use Rattle.us_format.specs.Known.{same_tree, Give, Itself, OfLevel, Plus, Minus, Joined, Over, Rest, OrderAt, RowsAt, Steps, given_steps}
+use Rattle.us_format.specs.Declaration.{Part, Query}
+use Rattle.us_format.specs.Known.{has, same_tree, Give, Itself, OfLevel, Plus, Minus, Joined, Over, Rest, OrderAt, RowsAt, Steps, given_steps}
 use Rattle.us_format.specs.Coordinates.{level_range}
 
 -- what a climb leaves: the coordinates, and the extent and the table of each query
@@ -64,3 +64,14 @@ recover s p f (x ∷ steps) vs =
 -- the indices that all levels of a part give
 abbrev pub recovered : Shape → Part → Found → Option (ℤ × ℤ)
 recovered s p f = recover s p f (given_steps p.levels p.queries (length p.levels)) []
+
+-- ---- the plan of a recovery
+
+-- the steps up to the one with which both indices have values, where these expressions have values already
+abbrev pub until_both : List Tree → Steps → Steps
+until_both known [] = []
+until_both known (x ∷ steps) = if has known RowIndex && has known ColIndex then [] else x ∷ until_both (x.0 ∷ known) steps
+
+-- the steps by which the indices are recovered from all levels
+abbrev pub plan_of : List Tree → List Query → Steps
+plan_of levels queries = until_both [] (given_steps levels queries (length levels))

@@ -1,10 +1,14 @@
 -- The rules that a part has to meet for its buffers to mean what they hold.
-use Rattle.std.specs.Prelude.{ℕ, ◌<◌, List, [], ◌∷◌, length, Bool, true, false, not, ◌||◌, IsTrue, IsFalse, All}
+use Rattle.std.specs.Prelude.{ℕ, suc, ◌+◌, ◌<◌, ◌≤◌, List, [], ◌∷◌, length, Bool, true, false, not, ◌&&◌, ◌||◌, IsTrue, IsFalse, All, ◌≡◌}
+use Rattle.std.specs.List.{list_any}
 use Rattle.us_expr.specs.Tree.{Tree, RowIndex, ColIndex, Number, Variable, Sum, Difference, Quotient, Remainder, uses}
 use Rattle.us_expr.specs.Value.{IsWithin}
-use Rattle.us_format.specs.Lists.{among, all_different}
-use Rattle.us_format.specs.Declaration.{Query, SumOf, Enumerate, Reorder, Schedule, Part, argument, defined}
+use Rattle.us_format.specs.declared.Kind.TheVariants.{Slot}
+use Rattle.us_format.specs.Lists.{among, all_different, join}
+use Rattle.us_format.specs.Declaration.{Query, SumOf, Enumerate, Reorder, Schedule, Column, LevelColumn, ValueColumn, Part, Declaration, argument, defined}
 use Rattle.us_format.specs.Known.{is_known}
+use Rattle.us_format.specs.Kinds.{kind}
+use Rattle.us_format.specs.Packs.{CellsOf, same_piece, pieces, in_pack}
 
 -- whether a variable stands in an expression
 abbrev pub has_variable : Tree → Bool
@@ -56,3 +60,37 @@ pub record IsLawful (p : Part) : Type 0 where
   pub levels : All (UsesDefined p.queries) p.levels
   pub row_known : IsTrue (is_known p.levels p.queries (length p.levels) RowIndex)
   pub col_known : IsTrue (is_known p.levels p.queries (length p.levels) ColIndex)
+
+-- ---- packs
+
+-- whether a column is a piece of a part
+abbrev pub is_piece : Part → Column → Bool
+is_piece p c = list_any (same_piece (CellsOf c)) (pieces p)
+
+-- whether no column is in a list twice
+abbrev pub each_once : List Column → Bool
+each_once [] = true
+each_once (c ∷ cs) = not (in_pack c cs) && each_once cs
+
+-- how many levels there are down to the cells of a column: one cell for each position after so many levels
+abbrev pub depth : Part → Column → ℕ
+depth p (LevelColumn k) = suc k
+depth p ValueColumn = length p.levels
+
+-- all levels between two columns of a list are slot levels, so the columns are equally long
+abbrev pub IsAligned : Part → List Column → Type 0
+IsAligned p cs = (c d : Column) → IsTrue (in_pack c cs) → IsTrue (in_pack d cs) → (k : ℕ) → depth p c ≤ k → k < depth p d → kind p k ≡ Slot
+
+-- the columns of the packs are pieces of the part, none stands in the packs twice, and the columns of a pack are equally long
+pub record ArePacksLawful (p : Part) : Type 0 where
+  pub columns : All (λ c. IsTrue (is_piece p c)) (join p.packs)
+  pub once : IsTrue (each_once (join p.packs))
+  pub aligned : All (IsAligned p) p.packs
+
+-- ---- declarations
+
+-- lawful parts with lawful packs, one part more than there are conditions
+pub record IsLawfulDeclaration (d : Declaration) : Type 0 where
+  pub parts : All IsLawful d.parts
+  pub packs : All ArePacksLawful d.parts
+  pub one_more : length d.parts ≡ length d.conds + 1

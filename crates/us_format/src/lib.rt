@@ -8,7 +8,9 @@
 mod laws;
 
 pub use laws::{
-    known_is_least, meaning_is_matrix, positions_ascend, size_adds_lengths, worked_rows,
+    buffers_are_counted, buffers_fit, buffers_mean_matrix, known_is_least, meaning_is_matrix,
+    one_matrix_by_buffers, packing_keeps_size, plan_recovers, positions_ascend, size_adds_lengths,
+    size_is_of_buffers, worked_rows,
 };
 
 /// What a level of a format keeps.

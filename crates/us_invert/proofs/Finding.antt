@@ -5,7 +5,7 @@ use Rattle.us_expr.specs.Tree.{Tree, Sum, Difference, Quotient, Remainder}
 use Rattle.us_format.specs.Known.{has}
 use Rattle.us_invert.specs.declared.table.Node.{Node}
 use Rattle.us_invert.specs.Table.{trees, IsTable}
-use Rattle.us_invert.proofs.Tables.{no-tree, sum-operands, difference-operands, quotient-operand, remainder-operand}
+use Rattle.us_invert.proofs.NodeTrees.{no-tree, sum-operands, difference-operands, quotient-operand, remainder-operand}
 
 pub some-weaker : {A : Type 0} (o : Option A) (P Q : A → Type 0) → ((x : A) → P x → Q x) → IfSome o P → IfSome o Q
 some-weaker None P Q h p = tt

@@ -9,7 +9,7 @@ use Rattle.us_invert.specs.declared.table.Node.{Node}
 use Rattle.us_invert.specs.Table.{tree_at, trees, IsTable, IsNumberOf}
 use Rattle.us_invert.specs.Rules.{flag}
 use Rattle.us_invert.specs.Flags.{flagged}
-use Rattle.us_invert.proofs.Tables.{length-trees, at-has}
+use Rattle.us_invert.proofs.NodeTrees.{length-trees, at-has}
 
 pub same-bool : (a b : Bool) → (a ≡ true → b ≡ true) → (b ≡ true → a ≡ true) → a ≡ b
 same-bool true b f g = sym (f refl)

@@ -4,7 +4,7 @@ use Rattle.us_expr.specs.Tree.{Tree}
 use Rattle.us_format.specs.Known.{sub_expressions, add_all}
 use Rattle.us_invert.specs.declared.table.Node.{Node}
 use Rattle.us_invert.specs.Table.{tree_at, trees, IsNumberOf}
-use Rattle.us_invert.proofs.Tables.{number-stays, add_all-append}
+use Rattle.us_invert.proofs.NodeTrees.{number-stays, add_all-append}
 
 -- after both operands: their numbers, and what the whole adds
 pub record Two (ns after : List Node) (op : Tree → Tree → Tree) (x y : ℕ) (e : Tree) : Type 0 where

@@ -17,7 +17,7 @@ use Rattle.us_invert.specs.declared.rules.Rule.{Rule}
 use Rattle.us_invert.specs.Table.{tree_at, tree_of, trees, IsTable}
 use Rattle.us_invert.specs.Rules.{AreRulesOf, index_node, IsRuleOf, IsQueryRule, flag, Follows}
 use Rattle.us_invert.specs.Flags.{flagged, is_number, AreKnownFlags}
-use Rattle.us_invert.proofs.Tables.{node_at, at-node, node-is}
+use Rattle.us_invert.proofs.NodeTrees.{node_at, at-node, node-is}
 use Rattle.us_invert.proofs.Flagged.{same-bool, flagged-at, flagged-has}
 use Rattle.us_invert.proofs.KnownIs.{node-rules-there, query-base, query-rules-there, index-tree, member, number-of, got, got-tree, variable-node, sum-node, difference-node, quotient-node, remainder-node, index-number}
 use Rattle.us_invert.proofs.KnownFlags.{rules-right}

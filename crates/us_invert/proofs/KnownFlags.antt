@@ -12,7 +12,7 @@ use Rattle.us_invert.specs.declared.table.Node.TheVariants.{Row, Col, Number as 
 use Rattle.us_invert.specs.declared.rules.Rule.{Rule}
 use Rattle.us_invert.specs.Table.{tree_at, tree_of, trees, IsBelow, IsTable}
 use Rattle.us_invert.specs.Rules.{rule, AreRulesOf, index_node, IsQueryRule, AllRules, IsRuleBelow, Follows}
-use Rattle.us_invert.proofs.Tables.{node_at, at-node, below-at}
+use Rattle.us_invert.proofs.NodeTrees.{node_at, at-node, below-at}
 use Rattle.us_invert.proofs.KnownIs.{node-rule-from, query-rule-from, index-tree, member, got-tree}
 
 pub from-Mem : {A : Type 0} (P : A → Type 0) (xs : List A) → ((x : A) → Mem x xs → P x) → All P xs

@@ -16,7 +16,7 @@ use Rattle.us_invert.specs.declared.table.Node.TheVariants.{Row, Col, Number as 
 use Rattle.us_invert.specs.declared.rules.Rule.{Rule}
 use Rattle.us_invert.specs.Table.{tree_at, tree_of, trees, IsBelow, IsTable, IsNumberOf}
 use Rattle.us_invert.specs.Rules.{AreRulesOf, NodeRules, index_node, IsQueryRule, QueryRules}
-use Rattle.us_invert.proofs.Tables.{node_at, at-node, below-at, node-is, number-of-node, length-trees, Mem-tree_at, member-number}
+use Rattle.us_invert.proofs.NodeTrees.{node_at, at-node, below-at, node-is, number-of-node, length-trees, Mem-tree_at, member-number}
 
 -- ---- the lists of rules
 

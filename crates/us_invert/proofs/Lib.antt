@@ -1,4 +1,4 @@
-pub mod Tables
+pub mod NodeTrees
 pub mod Inserting
 pub mod Finding
 pub mod Passing
@@ -7,3 +7,12 @@ pub mod Flagged
 pub mod KnownIs
 pub mod KnownFlags
 pub mod KnownEnd
+pub mod FromNodes
+pub mod StepLists
+pub mod Adding
+pub mod Rounds
+pub mod Beginning
+pub mod Ending
+pub mod Walking
+pub mod PlanSteps
+pub mod PlanRanges

@@ -12,7 +12,7 @@ use Rattle.us_invert.specs.declared.table.Node.{Node}
 use Rattle.us_invert.specs.Table.{tree_at, trees, IsTable, IsNumberOf}
 use Rattle.us_invert.specs.Rules.{flag}
 use Rattle.us_invert.specs.Flags.{AddsGiven}
-use Rattle.us_invert.proofs.Tables.{add_all-append, at-has}
+use Rattle.us_invert.proofs.NodeTrees.{add_all-append, at-has}
 
 -- the table has what it had, and after it the expressions of the first k items
 pub record IsInserted {A : Type 0} (f : A → List Tree) (before now : List Node) (items : List A) (k : ℕ) : Type 0 where

@@ -2,3 +2,9 @@ pub mod Table
 pub mod Rules
 pub mod Flags
 pub mod Code
+pub mod Sources
+pub mod Plan
+pub mod Made
+pub mod Start
+pub mod Recovery
+pub mod Examples

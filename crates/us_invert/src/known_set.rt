@@ -88,7 +88,7 @@ fn insert_arguments(nodes: &mut Vec<Node>, queries: &[Query]) -> Result<(), Allo
 }
 
 /// The table of all expressions of a part.
-fn table_of(alloc: Global, levels: &[Expr], queries: &[Query]) -> Result<Vec<Node>, AllocError>
+pub fn table_of(alloc: Global, levels: &[Expr], queries: &[Query]) -> Result<Vec<Node>, AllocError>
     ensures table { IfOk result (λ nodes. IsTable nodes.items) }
     ensures trees { IfOk result (λ nodes. trees nodes.items ≡ expressions (map tree levels.now) (map query_of queries.now)) }
 {

@@ -1,5 +1,5 @@
 -- What it says of a declaration that no rule refuses it.
-use Rattle.std.proofs.Common.{◌≡◌, ℕ, suc, ◌<◌, List, [], ◌∷◌, ◌++◌, length, map, Bool, true, false, ◌&&◌, ◌||◌, refl, sym, ap, ap₂, subst, ◌∙◌, arith}
+use Rattle.std.proofs.Common.{◌≡◌, ℕ, suc, ◌<◌, List, [], ◌∷◌, ◌++◌, length, Bool, true, false, ◌&&◌, ◌||◌, refl, sym, ap, ap₂, subst, ◌∙◌, arith}
 use Rattle.std.specs.Prelude.{Option, Some, None, pos, ◌+ℤ◌, ◌-ℤ◌, if◌then◌else◌, slice_index_or}
 use Rattle.std.specs.Int.{int_div_euclid}
 use Rattle.std.specs.List.{All, list_all}
@@ -10,22 +10,21 @@ use Rattle.us_expr.specs.declared.ranges.Range.{Range}
 use Rattle.us_expr.specs.Tree.{Tree, RowIndex, ColIndex, Number, Variable, Sum, Difference, Quotient, Remainder, uses}
 use Rattle.us_expr.specs.Range.{range, range_of_remainder, IsRangeable}
 use Rattle.us_format.specs.Lists.{then_do, or_else, among}
-use Rattle.us_format.specs.Matrix.{Shape}
 use Rattle.us_format.specs.Coordinates.{variable_ranges, level_range}
 use Rattle.us_format.specs.Declaration.{Query, Part, Declaration, defined}
 use Rattle.us_decl.specs.Declares.{Declared, IsValid}
 use Rattle.us_judge.specs.Acceptance.{Rule, refusal_by, first_failing, is_defined_once, first_level, variables, uses_only, bad_name, some_query, part_rules, head_refusal, parts_refusal, first_refusal}
 use Rattle.us_judge.specs.Format.{part_at}
 use Rattle.us_judge.specs.Views.{declaration_of}
-use Rattle.us_judge.proofs.ValidExpressions.{UsesBelow, IsSmall, HasSmallLevels, small-valid}
+use Rattle.us_judge.proofs.ValidExpressions.{UsesBelow, IsSmall, small-valid}
 
 -- ---- options and tests
 
-none_first : {A : Type 0} (a b : Option A) → or_else a b ≡ None → a ≡ None
+pub none_first : {A : Type 0} (a b : Option A) → or_else a b ≡ None → a ≡ None
 none_first None b e = refl
 none_first (Some x) b e = absurd cc
 
-none_second : {A : Type 0} (a b : Option A) → or_else a b ≡ None → b ≡ None
+pub none_second : {A : Type 0} (a b : Option A) → or_else a b ≡ None → b ≡ None
 none_second None b e = e
 none_second (Some x) b e = absurd cc
 
@@ -33,7 +32,7 @@ not_done : {A B : Type 0} (a : Option A) (f : A → B) → then_do a (λ x. Some
 not_done None f e = refl
 not_done (Some x) f e = absurd cc
 
-passed : (b : Bool) (k : ℕ) (rest : Option ℕ) → (if b then rest else Some k) ≡ None → (b ≡ true) × (rest ≡ None)
+pub passed : (b : Bool) (k : ℕ) (rest : Option ℕ) → (if b then rest else Some k) ≡ None → (b ≡ true) × (rest ≡ None)
 passed true k rest e = (refl, e)
 passed false k rest e = absurd cc
 
@@ -130,7 +129,7 @@ range-plain m n rs qs (Remainder a k) u = ap (λ (x : Range). range_of_remainder
 
 -- ---- levels of an accepted declaration
 
-no_query : (qs : List Query) → some_query qs ≡ None → qs ≡ []
+pub no_query : (qs : List Query) → some_query qs ≡ None → qs ≡ []
 no_query [] e = refl
 no_query (q ∷ qs) e = absurd cc
 

@@ -2,12 +2,15 @@ pub mod WorkedRefusals
 pub mod Members
 pub mod Reaching
 pub mod Looseness
+pub mod LawfulPacks
+pub mod LawfulDeclarations
 pub mod Knowing
 pub mod Apart
 pub mod Verdicts
 pub mod Valid
 pub mod Parsed
 pub mod PartKinds
+pub mod PartPlans
 pub mod Counting
 pub mod ValidExpressions
 pub mod Accepted

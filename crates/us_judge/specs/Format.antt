@@ -1,4 +1,4 @@
--- What a format keeps: a valid declaration that breaks no rule, and the kinds of its levels.
+-- What a format keeps: a valid declaration that breaks no rule, the kinds of its levels, and the plans of its parts.
 use Rattle.std.specs.Prelude.{◌≡◌, ℕ, List, [], map, slice_index_or, None}
 use Rattle.us_format.specs.declared.Kind.{Kind}
 use Rattle.us_format.specs.Declaration.{Part, Declaration}
@@ -7,12 +7,15 @@ use Rattle.us_decl.specs.Declares.{IsValid}
 use Rattle.us_decl.specs.Views.{decl_view}
 use Rattle.us_judge.specs.Acceptance.{first_refusal}
 use Rattle.us_judge.specs.Views.{declaration_of}
+use Rattle.us_format.specs.Known.{Steps}
 use Rattle.us_judge.specs.Kinds.{kinds_of}
+use Rattle.us_judge.specs.Plans.{plan_for}
 
-pub record IsFormat (d : Decl) (kinds : List (List Kind)) : Type 0 where
+pub record IsFormat (d : Decl) (kinds : List (List Kind)) (plans : List Steps) : Type 0 where
   pub valid : IsValid (decl_view d)
   pub accepted : first_refusal (declaration_of (decl_view d)) ≡ None
   pub kinds_are : kinds ≡ map kinds_of (declaration_of (decl_view d)).parts
+  pub plans_are : plans ≡ map plan_for (declaration_of (decl_view d)).parts
 
 -- the part with this number, counted from 0
 abbrev pub part_at : Declaration → ℕ → Part

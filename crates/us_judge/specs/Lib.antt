@@ -1,9 +1,11 @@
 pub mod Acceptance
+pub mod Laws
 pub mod Worked
 pub mod Views
 pub mod Variables
 pub mod Short
 pub mod Kinds
+pub mod Plans
 pub mod Causes
 pub mod Buffers
 pub mod Code

@@ -8,6 +8,7 @@ ghost use Rattle.us_judge.specs.Acceptance.{first_refusal, parts_refusal};
 ghost use Rattle.us_judge.specs.Causes.{Explains};
 ghost use Rattle.us_judge.specs.Format.{part_at};
 ghost use Rattle.us_judge.specs.Kinds.{kinds_of};
+ghost use Rattle.us_judge.specs.Plans.{plan_for};
 ghost use Rattle.us_judge.specs.Short.{IsShort, AreShort, IsShortDeclaration};
 ghost use Rattle.us_judge.specs.Views.{declaration_of, plain_part, plain_head, plain_body};
 
@@ -15,18 +16,21 @@ use crate::buffers::buffer_count;
 use crate::head::head_refusal;
 use crate::kinds::{Kinds, copy_kinds};
 use crate::part::{judge_part, refuse};
+use crate::plans::{copy_plans, plans_of};
 use crate::refusal::JudgeFault;
 use sqlite_items::Items;
 use std::alloc::{AllocError, Global};
 use std::marker::Model;
 use us_decl::{Body, Decl, Head, Part};
 use us_format::Kind;
+use us_invert::RecoveryPlan;
 
 /// A valid declaration that breaks no rule. Contracts see it as what the declaration declares.
 #[derive(Debug, Drop)]
 pub struct Format {
     decl: Decl,
     kinds: Items<Kinds>,
+    plans: Items<RecoveryPlan>,
 }
 
 impl Model for Format {
@@ -41,7 +45,7 @@ impl Model for Format {
 
     ghost view = { λ f. decl_view f.decl };
 
-    ghost invariant = { λ f. IsFormat f.decl f.kinds };
+    ghost invariant = { λ f. IsFormat f.decl f.kinds f.plans };
 }
 
 /// Judges an undivided declaration.
@@ -114,6 +118,15 @@ fn judge_declaration(alloc: Global, decl: &Decl) -> Result<Items<Kinds>, JudgeFa
     judge_body(alloc, &decl.body)
 }
 
+/// The plans of the parts of an accepted declaration.
+fn plans_of_accepted(alloc: Global, decl: &Decl) -> Result<Items<RecoveryPlan>, AllocError>
+    requires valid { IsValid (decl_view decl.now) }
+    requires accepted { first_refusal (declaration_of (decl_view decl.now)) ≡ None }
+    ensures { IfOk result (λ plans. plans ≡ map plan_for (declaration_of (decl_view decl.now)).parts) }
+{
+    plans_of(alloc, &decl.body)
+}
+
 /// The format of a valid declaration, if it breaks no rule; else the first part that breaks one, the lowest rule that
 /// it breaks and the first item that breaks this rule. There is no other way to make a format.
 pub fn judge(alloc: Global, decl: Decl) -> Result<Format, JudgeFault>
@@ -123,7 +136,8 @@ pub fn judge(alloc: Global, decl: Decl) -> Result<Format, JudgeFault>
     ensures refused { IfErr result (λ fault. Explains fault (first_refusal (declaration_of (decl_view decl)))) }
 {
     let kinds = judge_declaration(alloc, &decl)?;
-    Ok(Format { decl, kinds })
+    let plans = plans_of_accepted(alloc, &decl)?;
+    Ok(Format { decl, kinds, plans })
 }
 
 /// How many buffers the parts of a body have, whose levels have these kinds.
@@ -174,6 +188,22 @@ impl Format {
         self.kinds.as_slice()[part].as_slice()[level]
     }
 
+    /// The kinds of the levels of a part, the parts being counted from 0.
+    pub fn kinds(&self, part: usize) -> &[Kind]
+        requires { part < length (declaration_of self.now).parts }
+        ensures { result.now ≡ kinds_of (part_at (declaration_of self.now) part) }
+    {
+        self.kinds.as_slice()[part].as_slice()
+    }
+
+    /// The plan by which the indices of a part's entries are recovered, the parts being counted from 0.
+    pub fn plan(&self, part: usize) -> &RecoveryPlan
+        requires { part < length (declaration_of self.now).parts }
+        ensures { result.now ≡ plan_for (part_at (declaration_of self.now) part) }
+    {
+        &self.plans.as_slice()[part]
+    }
+
     /// How many buffers the format has.
     pub fn buffers(&self) -> usize
         ensures { result ≡ total_count (declaration_of self.now) }
@@ -186,7 +216,8 @@ impl Format {
         ensures { IfOk result (λ f. f ≡ self.now) }
     {
         let kinds = copy_kinds(alloc, self.kinds.as_slice())?;
+        let plans = copy_plans(alloc, self.plans.as_slice())?;
         let decl = self.decl.copy(alloc)?;
-        Ok(Format { decl, kinds })
+        Ok(Format { decl, kinds, plans })
     }
 }

@@ -11,12 +11,13 @@ mod laws;
 mod level_ranges;
 mod packs;
 mod part;
+mod plans;
 mod refusal;
 mod rules;
 mod variables;
 
 pub use format::{Format, judge};
-pub use laws::worked_refusals;
+pub use laws::{accepted_is_lawful, worked_refusals};
 pub use refusal::{JudgeFault, Refusal};
 pub use us_format::Kind;
 

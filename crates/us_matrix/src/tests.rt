@@ -1,5 +1,5 @@
 // Matrices from triples.
-use crate::{Matrix, Shape, Triple};
+use crate::{Buffers, Matrix, Shape, Triple};
 use std::test::Fail;
 
 const SHAPE: Shape = Shape { rows: 3, cols: 4 };
@@ -44,4 +44,19 @@ fn a_shape_has_sides_below_two_to_the_31(rt: HostRuntime) {
     assert_eq!(rt; Shape::new(3, 4), Some(SHAPE));
     assert_eq!(rt; Shape::new(0, 4), None);
     assert_eq!(rt; Shape::new(3, 2147483648), None);
+}
+
+#[test]
+fn lists_stand_in_order(rt: HostRuntime) -> Result<(), Fail> {
+    let alloc = rt.alloc();
+    let mut buffers = Buffers::new(alloc);
+    assert_eq!(rt; buffers.count(), 0);
+    buffers.push(vec![in alloc; 0, 2, 2, 3]?)?;
+    buffers.push(vec![in alloc; -7]?)?;
+    assert_eq!(rt; buffers.count(), 2);
+    if buffers.count() == 2 {
+        assert_eq!(rt; buffers.list(0), [0, 2, 2, 3].as_slice());
+        assert_eq!(rt; buffers.list(1), [-7].as_slice());
+    }
+    Ok(())
 }

@@ -53,7 +53,7 @@ refused_at slot fault bytes content status e s le h =
 
 -- ---- libraries
 
-library_is : (bytes : List ℕ) (library : Library) → ParsesLibrary bytes (Ok library) → library_in bytes ≡ Ok (map decl_view library.decls)
+library_is : (bytes : List ℕ) (library : Library) → ParsesLibrary bytes (Ok library) → library_in bytes ≡ Ok (map decl_view library)
 library_is bytes library p = ap (told (length bytes)) (p.reads ∙ p.tells.is) ∙ ap Ok (sym p.tells.view)
 
 -- a fault, or want of memory, of which nothing is said
@@ -71,7 +71,7 @@ library_fault bytes (decl.Form place) p = ap (told (length bytes)) (p.reads ∙ 
 library_fault bytes (decl.TooBig place) p = ap (told (length bytes)) (p.reads ∙ p.tells.1) ∙ ap (λ n. Err (decl.TooBig n)) (place_is (length bytes) p.tells.0 place p.tells.2)
 library_fault bytes (decl.Repeated place) p = ap (told (length bytes)) (p.reads ∙ p.tells.1) ∙ ap (λ n. Err (decl.Repeated n)) (place_is (length bytes) p.tells.0 place p.tells.2)
 
-pub library_read : (slot : Slot) (bytes : List ℕ) (library : Library) → length bytes ≤ 1073741824 → ParsesLibrary bytes (Ok library) → library_at slot bytes ≡ Ok (map decl_view library.decls)
+pub library_read : (slot : Slot) (bytes : List ℕ) (library : Library) → length bytes ≤ 1073741824 → ParsesLibrary bytes (Ok library) → library_at slot bytes ≡ Ok (map decl_view library)
 library_read slot bytes library le p = short slot bytes (library_step slot (library_in bytes)) le ∙ ap (library_step slot) (library_is bytes library p)
 
 library_refused : (slot : Slot) (fault : DeclFault) (bytes : List ℕ) → length bytes ≤ 1073741824 → IsFormatsFault fault (library_in bytes)
@@ -109,10 +109,10 @@ each_fits (Then ts x) h k d lt =
 some_text : grammar.Decl
 some_text = record { name = []; body = Whole (record { queries = Empty; levels = None; trim = None; merge = None; packs = Empty }) }
 
-pub all_valid : (bytes : List ℕ) (library : Library) → ParsesLibrary bytes (Ok library) → All (λ d. IsValid (decl_view d)) library.decls
+pub all_valid : (bytes : List ℕ) (library : Library) → ParsesLibrary bytes (Ok library) → All (λ d. IsValid (decl_view d)) library
 all_valid bytes library p k d lt =
     let text = p.tells.text in
-    let len : k < length (run_items text) = omega (arith, length-map library.decls decl_view, length-map (run_items text) declared, ap length p.tells.view) in
-    let same : decl_view (get_or library.decls k d) ≡ declared (get_or (run_items text) k some_text) =
-    sym (get_or-map decl_view library.decls k d (decl_view d) lt) ∙ ap (λ l. get_or l k (decl_view d)) p.tells.view ∙ get_or-map declared (run_items text) k some_text (decl_view d) len in
+    let len : k < length (run_items text) = omega (arith, length-map library decl_view, length-map (run_items text) declared, ap length p.tells.view) in
+    let same : decl_view (get_or library k d) ≡ declared (get_or (run_items text) k some_text) =
+    sym (get_or-map decl_view library k d (decl_view d) lt) ∙ ap (λ l. get_or l k (decl_view d)) p.tells.view ∙ get_or-map declared (run_items text) k some_text (decl_view d) len in
     record { text = get_or (run_items text) k some_text; is = sym same; within = each_fits text p.tells.fits k some_text len }

@@ -24,5 +24,5 @@ HasSides (Check formats shape) = (shape.rows < 2 ^ 31) × (shape.cols < 2 ^ 31)
 
 -- the declarations of a library that was read
 abbrev pub declarations_of : Result Library Status → Result (List Declared) Status
-declarations_of (Ok library) = Ok (map decl_view library.decls)
+declarations_of (Ok library) = Ok (map decl_view library)
 declarations_of (Err status) = Err status

@@ -2,8 +2,9 @@
 use crate::{Slot, Status, run};
 use std::alloc::{AllocError, Global};
 use std::test::Fail;
-use us_decl::{parse_library, print_decl};
+use us_decl::parse_library;
 use us_outside::{Call, MemoryOutside, Outside};
+use us_print::print_decl;
 
 // A dozen worked formats, in canonical text.
 const LIBRARY: &str = "format csr {

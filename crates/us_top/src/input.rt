@@ -48,7 +48,7 @@ pub fn read_library<O: Outside>(
     name: &str,
 ) -> Result<Library, Status>
     ensures plain { IfSome (O.files outside.old) (λ fs. IsStep (library_at slot (content_of fs name.now)) (declarations_of result)) }
-    ensures valid { IfOk result (λ library. All (λ d. IsValid (decl_view d)) library.decls) }
+    ensures valid { IfOk result (λ library. All (λ d. IsValid (decl_view d)) library) }
     ensures refusal { IfErr result (IsReadRefusal slot name.now (O.faults outside.old) (O.faults outside.new)) }
     ensures files { O.files outside.new ≡ O.files outside.old }
     ensures printed { O.printed outside.new ≡ O.printed outside.old }

@@ -18,10 +18,10 @@ use us_matrix::Shape;
 
 /// A line for each declaration of a library: its kinds and ranges of levels for matrices of the shape, or its refusal.
 pub fn report(alloc: Global, library: &Library, shape: Shape) -> Result<Vec<u8>, AllocError>
-    requires valid { All (λ d. IsValid (decl_view d)) library.now.decls }
+    requires valid { All (λ d. IsValid (decl_view d)) library.now }
     requires rows { shape.rows < 2 ^ 31 }
     requires cols { shape.cols < 2 ^ 31 }
-    ensures { IfOk result (λ v. v.items ≡ report (shape_view shape) (map decl_view library.now.decls)) }
+    ensures { IfOk result (λ v. v.items ≡ report (shape_view shape) (map decl_view library.now)) }
 {
     let mut out = Vec::new(alloc);
     for k in 0..library.count() {

@@ -4,7 +4,7 @@ use Rattle.us_format.specs.Lists.{join}
 use Rattle.us_format.specs.Declaration.{query_of, argument}
 use Rattle.us_format.specs.Known.{add_all, sub_expressions}
 use Rattle.us_invert.specs.Table.{trees}
-use Rattle.us_invert.proofs.Tables.{add_all-append}
+use Rattle.us_invert.proofs.NodeTrees.{add_all-append}
 use Rattle.us_invert.proofs.known_set.table_of.Goals as goal
 
 pub returns-clause-trees : goal.returns-clause-trees

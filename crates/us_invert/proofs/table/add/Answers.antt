@@ -1,7 +1,7 @@
 use Rattle.std.proofs.Common.{◌≡◌, ℕ, List, slice_get, Some, ap, sym, ◌∙◌, subst, ◌++◌, ◌∷◌, []}
 use Rattle.us_invert.specs.declared.table.Node.{Node}
 use Rattle.us_invert.specs.Table.{tree_of, trees, IsTable, IsNumberOf, IsNoNode}
-use Rattle.us_invert.proofs.Tables.{number-of-node, at-has, added-old, table-more, trees-more, last-number}
+use Rattle.us_invert.proofs.NodeTrees.{number-of-node, at-has, added-old, table-more, trees-more, last-number}
 use Rattle.us_invert.proofs.table.add.Goals as goal
 
 there : (c : goal.In-Some) → IsNumberOf c.args.nodes.now.items c.in-Some.n (tree_of (trees c.args.nodes.now.items) c.args.node)

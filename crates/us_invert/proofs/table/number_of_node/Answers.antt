@@ -1,4 +1,4 @@
-use Rattle.us_invert.proofs.Tables.{number-of-node, absent}
+use Rattle.us_invert.proofs.NodeTrees.{number-of-node, absent}
 use Rattle.us_invert.proofs.Finding.{some-weaker, none-weaker}
 use Rattle.us_invert.proofs.table.number_of_node.Goals as goal
 

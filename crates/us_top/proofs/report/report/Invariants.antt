@@ -7,4 +7,4 @@ use Rattle.us_top.proofs.report.report.Given as goal
 
 abbrev pub invariant-loop-k : goal.invariant-loop-k
 invariant-loop-k l =
-    l.out.items ++ flat_map (declaration_line (shape_view l.shape)) (drop l.k (map decl_view l.library.decls)) ≡ report (shape_view l.shape) (map decl_view l.library.decls)
+    l.out.items ++ flat_map (declaration_line (shape_view l.shape)) (drop l.k (map decl_view l.library)) ≡ report (shape_view l.shape) (map decl_view l.library)

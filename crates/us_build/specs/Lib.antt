@@ -1,0 +1,6 @@
+pub mod Items
+pub mod Ready
+pub mod Cells
+pub mod Sizes
+pub mod Levels
+pub mod Pieces

@@ -1,0 +1,23 @@
+//! The plain builder of a part's buffers: it sorts the entries by their coordinates once, and goes down level by level.
+#![tactic(auto)]
+
+mod cells;
+mod fault;
+mod items;
+mod levels;
+mod passes;
+mod pieces;
+mod rows;
+mod steps;
+
+pub use cells::{push_level, values};
+pub use fault::BuildFault;
+pub use items::Item;
+pub use levels::Level;
+pub use passes::LIMIT;
+pub use pieces::{build_pieces, size_of_pieces};
+pub use rows::Rows;
+pub use steps::go_down;
+
+#[cfg(test)]
+mod tests;

@@ -1,0 +1,41 @@
+//! The entries of a part, ready to go down its levels.
+ghost use Rattle.std.specs.Prelude.{IfOk};
+ghost use Rattle.us_build.specs.Pieces.{AreRowsOf, IsBuildable};
+
+use crate::items::{Item, sorted_items};
+use crate::levels::{Level, levels_for};
+use std::alloc::{AllocError, Global};
+use us_expr::Expr;
+use us_format::Kind;
+use us_matrix::{Shape, Triple};
+
+/// The levels of a part, and its entries in ascending order of their coordinates at all levels.
+#[derive(Debug, Drop)]
+pub struct Rows {
+    /// The levels.
+    pub levels: Vec<Level>,
+    /// The entries on their way down.
+    pub items: Vec<Item>,
+}
+
+impl Rows {
+    /// The entries of a lawful part without queries, which has these level expressions and kinds, above the first
+    /// level.
+    pub fn new(
+        alloc: Global,
+        levels: &[Expr],
+        kinds: &[Kind],
+        shape: Shape,
+        entries: &[Triple],
+    ) -> Result<Rows, AllocError>
+        requires { IsBuildable levels.now kinds.now shape entries.now }
+        ensures { IfOk result (λ r. AreRowsOf levels.now kinds.now shape entries.now r.levels.items r.items.items) }
+    {
+        let made = levels_for(alloc, levels, kinds, shape)?;
+        let items = sorted_items(alloc, levels, &made, entries)?;
+        Ok(Rows {
+            levels: made,
+            items,
+        })
+    }
+}

@@ -1,6 +1,0 @@
-use Rattle.std.proofs.Common.{◌≡◌, ◌++◌}
-use Rattle.us_decl.specs.Canon.{indent}
-use Rattle.us_decl.proofs.printing.push_indent.Given as goal
-
-abbrev pub invariant-loop : goal.invariant-loop
-invariant-loop l = l.out.items ≡ l.fn.out.items ++ indent l.counter
