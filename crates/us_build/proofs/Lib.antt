@@ -12,6 +12,7 @@ pub mod Readiness
 pub mod Spans
 pub mod Offsets
 pub mod Sorting
+pub mod Walking
 pub mod PlainParts
 pub mod Sorted
 pub mod Whole

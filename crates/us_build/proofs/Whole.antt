@@ -180,6 +180,7 @@ module _ (exprs : List Expr) (kinds : List Kind) (shape : code.Shape) (ts : List
         few = omega (arith, length_permutation items ys g, length-map ts (item_over trees made), b.few);
         ready = subst (λ (z : List Level). AreReady (plain_levels z) 1 (rows_at (6 - length ls) ys)) (sym e) (subst (λ (k : ℕ). AreReady (plain_levels made) 1 (rows_at k ys)) i (rows-ready ys g up));
         unmoved = subst (λ (k : ℕ). rows_at k ys ≡ rows_first k ys) i (unmoved ys g up);
+        levels = λ p q. ap plain_levels e ∙ levels-are p q;
         size = λ p q. ap₂ (λ (z : List Level) (k : ℕ). size_from (plain_levels z) 1 (rows_at k ys)) e (sym i) ∙ size-is ys g up p q;
         buffers = λ p q. ap₂ (λ (z : List Level) (k : ℕ). level_buffers (plain_levels z) 1 (rows_at k ys)) e (sym i) ∙ buffers-are ys g up p q;
       }

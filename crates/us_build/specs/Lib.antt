@@ -3,4 +3,5 @@ pub mod Ready
 pub mod Cells
 pub mod Sizes
 pub mod Levels
+pub mod Ways
 pub mod Pieces

@@ -9,8 +9,9 @@ use Rattle.us_matrix.specs.declared.shape.Shape as code
 use Rattle.us_format.specs.declared.Kind.{Kind}
 use Rattle.us_format.specs.Buffers.{level_buffers, part_counts, piece_buffers}
 use Rattle.us_format.specs.Declaration.{Part}
-use Rattle.us_format.specs.Kinds.{kind}
+use Rattle.us_format.specs.Kinds.{kind, levels_of}
 use Rattle.us_format.specs.Matrix.{Entry, IsMatrixOf, Shape}
+use Rattle.us_format.specs.Queries.{extents_of}
 use Rattle.us_format.specs.Program.{plain_entries, plain_shape}
 use Rattle.us_format.specs.Reading.{limit}
 use Rattle.us_format.specs.Rules.{IsLawful}
@@ -48,5 +49,6 @@ pub record AreRowsOf (exprs : List Expr) (ks : List Kind) (shape : code.Shape) (
   pub few : length items ≤ limit
   pub ready : AreReady (plain_levels made) 1 (rows_at (6 - length made) items)
   pub unmoved : rows_at (6 - length made) items ≡ rows_first (6 - length made) items
+  pub levels : (p : Part) → IsPlain p exprs ks → plain_levels made ≡ levels_of (plain_shape shape) (extents_of (plain_entries entries) (plain_shape shape) p) p
   pub size : (p : Part) → IsPlain p exprs ks → size_from (plain_levels made) 1 (rows_at (6 - length made) items) ≡ piece_size (plain_shape shape) p (plain_entries entries)
   pub buffers : (p : Part) → IsPlain p exprs ks → level_buffers (plain_levels made) 1 (rows_at (6 - length made) items) ≡ piece_buffers (plain_shape shape) p (plain_entries entries)

@@ -9,6 +9,7 @@ mod passes;
 mod pieces;
 mod rows;
 mod steps;
+mod walk;
 
 pub use cells::{push_level, values};
 pub use fault::BuildFault;
@@ -18,6 +19,7 @@ pub use passes::LIMIT;
 pub use pieces::{build_pieces, size_of_pieces};
 pub use rows::Rows;
 pub use steps::go_down;
+pub use walk::Walk;
 
 #[cfg(test)]
 mod tests;

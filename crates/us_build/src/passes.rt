@@ -34,7 +34,7 @@ fn level_size(kind: Kind, above: u64, positions: u64) -> u64
 }
 
 /// Whether a level is full and has more positions than the limit.
-fn is_too_long(level: &Level, above: u64) -> bool
+pub(crate) fn is_too_long(level: &Level, above: u64) -> bool
     requires above { above ≤ limit }
     requires size { level.now.size < 2 ^ 38 }
     ensures long { result ≡ true → (level.now.kind ≡ Full) × (limit < above * level.now.size) }

@@ -1,28 +1,26 @@
 -- A plan in the making gets one step more.
-use Rattle.std.proofs.Common.{◌≡◌, ℕ, zero, suc, ◌+◌, ◌<◌, ◌≤◌, ◌⊎◌, List, [], ◌∷◌, ◌++◌, map, length, get_or, Bool, true, false, not, cond, sym, refl, ap, ap₂, ◌∙◌, subst, inl, inr, arith, Option, Some, None, is_some, unwrap_or, count_by}
-use Rattle.std.specs.Prelude.{slice_set, IsTrue}
+use Rattle.std.proofs.Common.{◌≡◌, ℕ, zero, suc, ◌+◌, ◌<◌, ◌≤◌, ◌⊎◌, List, [], ◌∷◌, ◌++◌, length, get_or, true, false, sym, refl, ap, ap₂, ◌∙◌, subst, inl, inr, arith, Option, Some, None, is_some, unwrap_or, count_by}
+use Rattle.std.specs.Prelude.{slice_set}
 use Rattle.std.proofs.lemmas.Bool.{false≢true, cases_lt, cases_eq}
 use Rattle.std.proofs.lemmas.List.{get_or_append_left, get_or-map, get_or-set_same, get_or-set_other, length-set, length-map, map-append}
 use Rattle.std.proofs.Math.Seq.{get_or-append_seam}
 use Rattle.us_expr.specs.Tree.{Tree, RowIndex}
 use Rattle.us_format.specs.Declaration.{Query}
-use Rattle.us_format.specs.Known.{has, Give, Plus, Minus, Joined as JoinedGive, Over as OverGive, Rest as RestGive, OrderAt, RowsAt, Steps, known_of, rule, with_step, step_for}
+use Rattle.us_format.specs.Known.{has, Give, Plus, Minus, Joined as JoinedGive, Over as OverGive, Rest as RestGive, OrderAt, RowsAt, known_of, rule, step_for}
 use Rattle.us_format.proofs.Order.{Mem}
-use Rattle.us_format.proofs.Members.{contains-Mem, Mem-contains}
 use Rattle.us_format.proofs.Trees.{Mem-has, has-Mem}
 use Rattle.us_format.proofs.Counting.{count-cons}
 use Rattle.us_format.proofs.Rules.{Fine, Justified, fine-rule}
-use Rattle.us_invert.specs.declared.table.Node.{Node}
+use Rattle.us_known.specs.declared.table.Node.{Node}
 use Rattle.us_invert.specs.declared.steps.Source.{Source}
 use Rattle.us_invert.specs.declared.steps.Source.TheVariants.{Constant, Level as LevelSource, Total, Less, Joined, Over, Rest, Order as OrderSource, Rows as RowsSource}
 use Rattle.us_invert.specs.declared.steps.PlanStep.{PlanStep}
-use Rattle.us_invert.specs.declared.steps.PlanStep.TheVariants.{Const, Level, Add, Sub, Join, Div, Rem, Order, Rows}
 use Rattle.us_invert.specs.declared.making.Making.{Making}
-use Rattle.us_invert.specs.Table.{tree_at, trees, IsTable}
-use Rattle.us_invert.specs.Sources.{give_of, gives, has_step, HasOperands, AreNumbersOf, IsGiven}
-use Rattle.us_invert.specs.Plan.{give_at, steps_of, step_at, IsEarlier, IsSuited, AreSteps}
+use Rattle.us_known.specs.Table.{tree_at, trees, IsTable}
+use Rattle.us_invert.specs.Sources.{give_of, has_step, HasOperands, AreNumbersOf, IsGiven}
+use Rattle.us_invert.specs.Plan.{give_at, steps_of, IsEarlier, IsSuited, AreSteps}
 use Rattle.us_invert.specs.Made.{number_at, step_of, trees_at, made_steps, is_free, AreNumbered, IsMaking, AddsStep}
-use Rattle.us_invert.proofs.NodeTrees.{length-snoc, at-has, member-at}
+use Rattle.us_known.proofs.NodeTrees.{length-snoc, at-has}
 use Rattle.us_invert.proofs.FromNodes.{same-bool}
 use Rattle.us_invert.proofs.StepLists.{known-steps, steps-snoc, are-steps-snoc}
 

@@ -1,28 +1,28 @@
 -- The steps at the start of a plan.
 use Rattle.std.proofs.Common.{◌≡◌, ℕ, zero, suc, ◌+◌, ◌<◌, ◌≤◌, ◌⊎◌, List, [], ◌∷◌, ◌++◌, take, drop, drop-cons, map, length, get_or, add-one, Bool, true, false, cond, nat_eq, eq-eqb, eqb-true, sym, refl, ap, ap₂, ◌∙◌, subst, inl, inr, arith, Option, Some, None, is_some, IfSome, IfNone, replicate, count_by}
-use Rattle.std.proofs.lemmas.Bool.{false≢true, cases_lt, cases_eq}
-use Rattle.std.proofs.lemmas.List.{drop_all, take_all, get_or_append_left, get_or-set_other, get_or-replicate, length-replicate, length-map}
+use Rattle.std.proofs.lemmas.Bool.{false≢true, cases_lt}
+use Rattle.std.proofs.lemmas.List.{drop_all, take_all, get_or_append_left, get_or-set_other, length-replicate}
 use Rattle.std.proofs.Math.Seq.{get_or-append_seam}
-use Rattle.us_expr.specs.Tree.{Tree, RowIndex, ColIndex, Number, Variable, Sum, Difference, Quotient, Remainder}
+use Rattle.us_expr.specs.Tree.{Tree, RowIndex}
 use Rattle.us_format.specs.Lists.{then_do}
-use Rattle.us_format.specs.Known.{has, same_tree, Give, Itself, OfLevel, Steps, level_of, at_start, with_step, start, passes, expressions, given_steps}
+use Rattle.us_format.specs.Known.{has, same_tree, OfLevel, Steps, level_of, at_start, with_step, start, passes, expressions, given_steps}
 use Rattle.us_format.specs.Declaration.{Query}
 use Rattle.us_format.proofs.Counting.{count-cons}
 use Rattle.us_format.proofs.Trees.{same_tree-true, same_tree-refl}
-use Rattle.us_invert.specs.declared.table.Node.{Node}
-use Rattle.us_invert.specs.declared.table.Node.TheVariants.{Row, Col, Number as NumberNode, Variable as VariableNode, Sum as SumNode, Difference as DifferenceNode, Quotient as QuotientNode, Remainder as RemainderNode}
+use Rattle.us_known.specs.declared.table.Node.{Node}
+use Rattle.us_known.specs.declared.table.Node.TheVariants.{Row, Col, Number as NumberNode, Variable as VariableNode, Sum as SumNode, Difference as DifferenceNode, Quotient as QuotientNode, Remainder as RemainderNode}
 use Rattle.us_invert.specs.declared.steps.Source.{Source}
 use Rattle.us_invert.specs.declared.steps.Source.TheVariants.{Constant, Level}
 use Rattle.us_invert.specs.declared.steps.PlanStep.{PlanStep}
 use Rattle.us_invert.specs.declared.making.Making.{Making}
-use Rattle.us_invert.specs.Table.{tree_at, tree_of, trees, IsTable, IsNumberOf}
-use Rattle.us_invert.specs.Sources.{give_of, gives, has_step, HasOperands}
-use Rattle.us_invert.specs.Plan.{IsSuited, AreSteps, steps_of}
+use Rattle.us_known.specs.Table.{tree_at, tree_of, trees, IsTable, IsNumberOf}
+use Rattle.us_invert.specs.Sources.{gives, has_step, HasOperands}
+use Rattle.us_invert.specs.Plan.{IsSuited, steps_of}
 use Rattle.us_invert.specs.Made.{step_of, trees_at, made_steps, is_free, AreNumbered, IsMaking, IsEmpty, AddsStep}
 use Rattle.us_invert.specs.Start.{IsNodeOf, AreNodesOf, is_node, place_of, level_source, start_source, SameAbove}
-use Rattle.us_invert.proofs.NodeTrees.{node_at, at-node, at-has, length-trees, length-snoc}
-use Rattle.us_invert.proofs.Loops.{take-next}
-use Rattle.us_invert.proofs.FromNodes.{same-bool, drop-map}
+use Rattle.us_known.proofs.NodeTrees.{node_at, at-node, at-has, length-trees, length-snoc}
+use Rattle.us_known.proofs.Loops.{take-next}
+use Rattle.us_invert.proofs.FromNodes.{same-bool}
 use Rattle.us_invert.proofs.Adding.{added-making, added-steps}
 
 -- ---- the nodes of the levels

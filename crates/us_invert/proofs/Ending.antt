@@ -3,26 +3,24 @@ use Rattle.std.proofs.Common.{◌≡◌, ℕ, zero, suc, ◌+◌, ◌*◌, ◌<�
 use Rattle.std.specs.Prelude.{slice_get}
 use Rattle.std.proofs.lemmas.Bool.{false≢true, and_from, cases_lt}
 use Rattle.std.proofs.lemmas.List.{length-map, length-append, map-append, get_or_default}
-use Rattle.std.proofs.lemmas.Option.{slice_get-get_or}
 use Rattle.us_expr.specs.Tree.{Tree, node_count, RowIndex, ColIndex, Number, Variable, Sum, Difference, Quotient, Remainder}
 use Rattle.us_format.specs.Declaration.{Query, argument}
 use Rattle.us_format.specs.Lists.{join}
-use Rattle.us_format.specs.Known.{has, same_tree, Steps, known_of, sub_expressions, add_all, expressions, given_steps, is_known}
-use Rattle.us_format.specs.Recover.{until_both, plan_of}
+use Rattle.us_format.specs.Known.{has, Steps, known_of, sub_expressions, add_all, expressions, given_steps, is_known}
+use Rattle.us_format.specs.Recover.{until_both}
 use Rattle.us_format.proofs.Order.{Mem}
 use Rattle.us_format.proofs.Members.{all-Mem}
 use Rattle.us_format.proofs.Trees.{Mem-has, has-Mem}
-use Rattle.us_invert.specs.declared.table.Node.{Node}
-use Rattle.us_invert.specs.declared.table.Node.TheVariants.{Row}
+use Rattle.us_known.specs.declared.table.Node.{Node}
 use Rattle.us_invert.specs.declared.steps.PlanStep.{PlanStep}
 use Rattle.us_invert.specs.declared.making.Making.{Making}
-use Rattle.us_invert.specs.Table.{tree_at, tree_of, trees, IsBelow, IsTable, IsNumberOf, IsNoNode}
+use Rattle.us_known.specs.Table.{tree_at, tree_of, trees, IsBelow, IsTable, IsNumberOf, IsNoNode}
 use Rattle.us_invert.specs.Sources.{AreNumbersOf}
 use Rattle.us_invert.specs.Plan.{steps_of, AreSteps, IsPlan, AreSmall}
-use Rattle.us_invert.specs.Made.{trees_at, made_steps, is_free, AreNumbered, IsMaking, IsStepNumber}
-use Rattle.us_invert.proofs.NodeTrees.{node_at, at-node, below-at, below-more, ordered-at, number-of-node, absent, length-trees, Mem-tree_at}
-use Rattle.us_invert.proofs.Loops.{take-next}
-use Rattle.us_invert.proofs.FromNodes.{same-bool, left-of, right-of}
+use Rattle.us_invert.specs.Made.{trees_at, made_steps, AreNumbered, IsMaking, IsStepNumber}
+use Rattle.us_known.proofs.NodeTrees.{node_at, at-node, below-more, ordered-at, number-of-node, absent, length-trees, Mem-tree_at}
+use Rattle.us_known.proofs.Loops.{take-next}
+use Rattle.us_invert.proofs.FromNodes.{same-bool}
 use Rattle.us_invert.proofs.StepLists.{length-steps, are-steps-take, steps-take, length-take, tree-take}
 use Rattle.us_invert.proofs.Adding.{known-made, tree-made, making-known}
 

@@ -1,6 +1,6 @@
 -- What gives a node its value gives its expression the value.
-use Rattle.std.proofs.Common.{◌≡◌, ℕ, zero, suc, ◌+◌, ◌<◌, ◌⊎◌, List, [], ◌∷◌, ◌++◌, ◌≤◌, map, length, get_or, drop, drop-cons, add-one, Bool, true, false, cond, ◌&&◌, nat_eq, eq-eqb, eqb-true, sym, refl, ap, ap₂, ◌∙◌, subst, inl, inr, arith, Option, Some, None, is_some, IfSome}
-use Rattle.std.specs.Prelude.{slice_get, IsTrue}
+use Rattle.std.proofs.Common.{◌≡◌, ℕ, zero, suc, ◌+◌, ◌<◌, List, [], ◌∷◌, ◌≤◌, map, length, get_or, drop, drop-cons, add-one, Bool, true, false, cond, ◌&&◌, nat_eq, eq-eqb, eqb-true, sym, refl, ap, ap₂, ◌∙◌, subst, inl, inr, arith, Option, Some, None, is_some, IfSome}
+use Rattle.std.specs.Prelude.{slice_get}
 use Rattle.std.proofs.lemmas.Bool.{false≢true}
 use Rattle.std.proofs.lemmas.List.{length-map, drop_all}
 use Rattle.std.proofs.lemmas.Option.{slice_get-get_or}
@@ -8,18 +8,18 @@ use Rattle.us_invert.specs.declared.steps.Way.{Way}
 use Rattle.us_expr.specs.declared.queries.Query.{Query as QueryCode}
 use Rattle.us_expr.specs.declared.queries.Axis.{Axis}
 use Rattle.us_expr.specs.declared.queries.Axis.TheVariants.{Rows as RowAxis, Cols as ColAxis}
-use Rattle.us_expr.specs.Tree.{Tree, RowIndex, ColIndex, Number, Variable, Sum, Difference, Quotient, Remainder}
+use Rattle.us_expr.specs.Tree.{Tree, RowIndex, Variable, Sum, Difference, Quotient, Remainder}
 use Rattle.us_format.specs.Lists.{or_else, when, first_of}
 use Rattle.us_format.specs.Declaration.{Query, SumOf, Enumerate, Reorder, Schedule, axis_of, index_of, query_of}
-use Rattle.us_format.specs.Known.{has, same_tree, Give, Plus, Minus, Joined as JoinedGive, OrderAt, RowsAt, from_sum, from_difference, from_quotient, from_reorder, from_schedule, from_operands, order_for, rows_for, rule}
-use Rattle.us_format.proofs.Trees.{same_tree-true, same_tree-refl, has-Mem}
-use Rattle.us_invert.specs.declared.table.Node.{Node}
-use Rattle.us_invert.specs.declared.table.Node.TheVariants.{Row, Col, Number as NumberNode, Variable as VariableNode, Sum as SumNode, Difference as DifferenceNode, Quotient as QuotientNode, Remainder as RemainderNode}
+use Rattle.us_format.specs.Known.{has, same_tree, Give, Plus, Minus, Joined as JoinedGive, OrderAt, RowsAt, from_sum, from_difference, from_quotient, from_reorder, from_schedule, from_operands, order_for, rows_for}
+use Rattle.us_format.proofs.Trees.{same_tree-true, same_tree-refl}
+use Rattle.us_known.specs.declared.table.Node.{Node}
+use Rattle.us_known.specs.declared.table.Node.TheVariants.{Row, Col, Number as NumberNode, Variable as VariableNode, Sum as SumNode, Difference as DifferenceNode, Quotient as QuotientNode, Remainder as RemainderNode}
 use Rattle.us_invert.specs.declared.steps.Source.{Source}
-use Rattle.us_invert.specs.declared.steps.Source.TheVariants.{Constant, Level, Total, Less, Joined, Over, Rest, Order, Rows}
-use Rattle.us_invert.specs.Table.{tree_at, tree_of, trees, IsBelow, IsTable, IsNumberOf, IsNoNode}
+use Rattle.us_invert.specs.declared.steps.Source.TheVariants.{Total, Less, Joined, Over, Rest, Order, Rows}
+use Rattle.us_known.specs.Table.{tree_at, tree_of, trees, IsBelow, IsTable, IsNumberOf, IsNoNode}
 use Rattle.us_invert.specs.Sources.{give_of, gives, has_step, HasOperands, AreNumbersOf, IsGiven, sum_source, difference_source, IsQuotientSource, is_index, order_source, IsRowsSource, operands_source, from_way, by_ways}
-use Rattle.us_invert.proofs.NodeTrees.{node_at, at-node, below-at, number-of-node, absent, no-tree, length-trees}
+use Rattle.us_known.proofs.NodeTrees.{node_at, at-node, below-at, number-of-node, absent, length-trees}
 
 -- ---- choices
 

@@ -1,12 +1,3 @@
-pub mod NodeTrees
-pub mod Inserting
-pub mod Finding
-pub mod Passing
-pub mod Loops
-pub mod Flagged
-pub mod KnownIs
-pub mod KnownFlags
-pub mod KnownEnd
 pub mod FromNodes
 pub mod StepLists
 pub mod Adding

@@ -1,5 +1,5 @@
 -- What a recovery requires of its plan, from the levels and queries.
-use Rattle.std.proofs.Common.{◌≡◌, ℕ, zero, suc, ◌+◌, ◌<◌, ◌≤◌, ◌^◌, ◌⊎◌, List, [], ◌∷◌, ◌++◌, map, length, get_or, Bool, true, false, cond, ◌&&◌, sym, refl, ap, ◌∙◌, subst, inl, inr, arith, Some, All, ℤ, pos, ◌+ℤ◌, ◌≤ℤ◌, ◌<ℤ◌}
+use Rattle.std.proofs.Common.{◌≡◌, ℕ, zero, suc, ◌<◌, ◌≤◌, ◌^◌, ◌⊎◌, List, [], ◌∷◌, ◌++◌, map, length, get_or, true, ◌&&◌, refl, subst, inl, inr, arith, All, ℤ, pos, ◌+ℤ◌, ◌≤ℤ◌, ◌<ℤ◌}
 use Rattle.std.specs.Prelude.{int_le, int_lt, nat_lt, nat_le}
 use Rattle.std.proofs.lemmas.Bool.{false≢true, and_parts}
 use Rattle.std.proofs.lemmas.Bool.Decides.{nat_tests}
@@ -16,9 +16,9 @@ use Rattle.us_format.specs.Recover.{plan_of}
 use Rattle.us_format.proofs.Order.{Mem}
 use Rattle.us_format.proofs.Members.{all-Mem, Mem-either, join-Mem, added-from}
 use Rattle.us_format.proofs.Chain.{Chain, chain-given}
-use Rattle.us_invert.specs.Table.{tree_at}
+use Rattle.us_known.specs.Table.{tree_at}
 use Rattle.us_invert.specs.Plan.{AreSmall}
-use Rattle.us_invert.specs.Recovery.{IsCoordinate, HasCoordinate}
+use Rattle.us_invert.specs.Recovery.{HasCoordinate}
 use Rattle.us_invert.specs.Examples.{is_within, is_near, are_near, are_valid, are_valid_arguments, are_coordinates, can_run}
 use Rattle.us_invert.proofs.Walking.{chain-cut, plan-level}
 

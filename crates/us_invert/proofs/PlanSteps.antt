@@ -1,9 +1,9 @@
 -- The steps of a plan, with their numbers.
-use Rattle.std.proofs.Common.{◌≡◌, ℕ, suc, ◌<◌, max, List, length, get_or, sym, ap, ◌∙◌, subst, arith}
+use Rattle.std.proofs.Common.{◌≡◌, ℕ, ◌<◌, List, length, sym, ap, ◌∙◌, subst, arith}
 use Rattle.us_expr.specs.Tree.{Tree, RowIndex, ColIndex}
 use Rattle.us_format.specs.Known.{Give, Itself}
 use Rattle.us_invert.specs.declared.steps.PlanStep.{PlanStep}
-use Rattle.us_invert.specs.Table.{tree_at}
+use Rattle.us_known.specs.Table.{tree_at}
 use Rattle.us_invert.specs.Plan.{give_at, steps_of, step_at, item_at, IsPlan, HasSteps, IsStepOf}
 use Rattle.us_invert.proofs.StepLists.{known-steps, length-steps, steps-at}
 

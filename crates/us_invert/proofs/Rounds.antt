@@ -1,15 +1,15 @@
 -- Passes over the nodes, and the start.
-use Rattle.std.proofs.Common.{◌≡◌, ℕ, zero, suc, ◌+◌, ◌-◌, ◌<◌, ◌≤◌, List, [], ◌∷◌, ◌++◌, drop, drop-cons, add-one, length, Bool, true, false, sym, refl, ap, ap₂, ◌∙◌, subst, arith}
+use Rattle.std.proofs.Common.{◌≡◌, ℕ, zero, suc, ◌+◌, ◌-◌, ◌<◌, ◌≤◌, List, drop, drop-cons, add-one, length, Bool, true, false, sym, refl, ap, ap₂, ◌∙◌, subst, arith}
 use Rattle.std.proofs.lemmas.Bool.{false≢true}
 use Rattle.std.proofs.lemmas.List.{drop_all}
 use Rattle.us_expr.specs.Tree.{Tree, RowIndex}
 use Rattle.us_format.specs.Declaration.{Query}
 use Rattle.us_format.specs.Known.{Steps, step_for, one_pass, passes}
-use Rattle.us_invert.specs.declared.table.Node.{Node}
+use Rattle.us_known.specs.declared.table.Node.{Node}
 use Rattle.us_invert.specs.declared.making.Making.{Making}
-use Rattle.us_invert.specs.Table.{tree_at, trees}
+use Rattle.us_known.specs.Table.{tree_at, trees}
 use Rattle.us_invert.specs.Made.{made_steps, IsMaking}
-use Rattle.us_invert.proofs.NodeTrees.{length-trees}
+use Rattle.us_known.proofs.NodeTrees.{length-trees}
 
 -- in a pass, before the node e: what is left of it gives the whole
 pub record IsOnPass (ns : List Node) (qs : List Query) (initial now : Making) (e : ℕ) (changed : Bool) : Type 0 where

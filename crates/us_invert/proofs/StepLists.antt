@@ -1,15 +1,15 @@
 -- Lists of steps with numbers of earlier steps.
-use Rattle.std.proofs.Common.{◌≡◌, ℕ, zero, suc, ◌+◌, ◌<◌, ◌≤◌, ◌⊎◌, List, [], ◌∷◌, ◌++◌, map, take, drop, length, get_or, sym, refl, ap, ap₂, ◌∙◌, subst, inl, inr, arith}
+use Rattle.std.proofs.Common.{◌≡◌, ℕ, zero, suc, ◌<◌, ◌≤◌, ◌⊎◌, List, [], ◌∷◌, ◌++◌, take, length, get_or, sym, refl, ap, ap₂, ◌∙◌, subst, inl, inr, arith}
 use Rattle.std.proofs.lemmas.Bool.{cases_lt}
-use Rattle.std.proofs.lemmas.List.{get_or_append_left, get_or-take}
+use Rattle.std.proofs.lemmas.List.{get_or_append_left}
 use Rattle.std.proofs.Math.Seq.{get_or-append_seam}
-use Rattle.us_expr.specs.Tree.{Tree, RowIndex}
-use Rattle.us_format.specs.Known.{Give, Plus, Minus, Joined, Over, Rest as RestGive, OrderAt, RowsAt, Itself, Steps, known_of}
+use Rattle.us_expr.specs.Tree.{Tree}
+use Rattle.us_format.specs.Known.{Give, Plus, Minus, Joined, Over, Rest as RestGive, OrderAt, RowsAt, Steps, known_of}
 use Rattle.us_invert.specs.declared.steps.PlanStep.{PlanStep}
 use Rattle.us_invert.specs.declared.steps.PlanStep.TheVariants.{Const, Level, Add, Sub, Join, Div, Rem, Order, Rows}
-use Rattle.us_invert.specs.Table.{tree_at}
+use Rattle.us_known.specs.Table.{tree_at}
 use Rattle.us_invert.specs.Plan.{give_at, steps_with, steps_of, step_at, IsEarlier, IsSuited, AreSteps}
-use Rattle.us_invert.proofs.NodeTrees.{length-snoc, snoc-before, snoc-last}
+use Rattle.us_known.proofs.NodeTrees.{length-snoc, snoc-before, snoc-last}
 
 pub earlier-more : (k j : ℕ) (x : PlanStep) → k ≤ j → IsEarlier k x → IsEarlier j x
 earlier-more k j (Const c) l h = tt

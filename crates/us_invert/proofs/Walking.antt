@@ -1,7 +1,6 @@
 -- Recovery, step by step.
-use Rattle.std.proofs.Common.{◌≡◌, ℕ, zero, suc, ◌+◌, ◌-◌, ◌*◌, ◌^◌, ◌<◌, ◌≤◌, ◌⊎◌, max, List, [], ◌∷◌, ◌++◌, take, drop, drop-cons, add-one, map, length, get_or, Bool, true, false, cond, ◌&&◌, sym, refl, ap, ap₂, ◌∙◌, subst, inl, inr, arith, Option, Some, None, IfSome, All, ℤ, pos, negsuc, ◌+ℤ◌, ◌-ℤ◌, ◌*ℤ◌, ◌≤ℤ◌, ◌<ℤ◌}
+use Rattle.std.proofs.Common.{◌≡◌, ℕ, zero, suc, ◌+◌, ◌^◌, ◌<◌, ◌≤◌, ◌⊎◌, max, List, [], ◌∷◌, ◌++◌, take, drop, drop-cons, add-one, map, length, get_or, Bool, true, false, cond, ◌&&◌, sym, refl, ap, ap₂, ◌∙◌, subst, inl, inr, arith, Option, Some, None, IfSome, All, ℤ, pos, negsuc, ◌+ℤ◌, ◌-ℤ◌, ◌≤ℤ◌, ◌<ℤ◌}
 use Rattle.std.specs.Prelude.{slice_get, int_le}
-use Rattle.std.specs.Int.{int_div_euclid, int_rem_euclid}
 use Rattle.std.proofs.lemmas.Bool.{false≢true, cases_lt, cases_eq}
 use Rattle.std.proofs.lemmas.Int.{ints}
 use Rattle.std.proofs.lemmas.List.{get_or-map, get_or_append_left, drop_all, take_all}
@@ -9,24 +8,23 @@ use Rattle.std.proofs.lemmas.Option.{get_or_from_slice_get}
 use Rattle.us_expr.specs.declared.ranges.Range.{Range}
 use Rattle.us_expr.specs.Tree.{Tree, RowIndex, ColIndex, Number, Variable, Sum, Difference, Quotient, Remainder}
 use Rattle.us_expr.specs.Range.{range, index_range, IsRangeable}
-use Rattle.us_format.specs.Lists.{then_do, or_else, nth, cell, nat_of}
+use Rattle.us_format.specs.Lists.{then_do, cell, nat_of}
 use Rattle.us_format.specs.Matrix.{Shape}
 use Rattle.us_format.specs.Declaration.{Part, Query}
-use Rattle.us_format.specs.Coordinates.{level_range, variable_ranges, span}
-use Rattle.us_format.specs.Known.{has, same_tree, Give, OfLevel, Steps, known_of, given_steps}
-use Rattle.us_format.specs.Recover.{Found, Values, value_of, both, with_both, give_value, lies_in, checked, recover, recovered, until_both, plan_of}
+use Rattle.us_format.specs.Coordinates.{level_range, variable_ranges}
+use Rattle.us_format.specs.Known.{has, same_tree, Give, OfLevel, Steps, given_steps}
+use Rattle.us_format.specs.Recover.{Found, Values, value_of, both, give_value, lies_in, checked, recover, recovered, until_both, plan_of}
 use Rattle.us_format.proofs.Trees.{same_tree-true, same_tree-refl}
 use Rattle.us_format.proofs.Chain.{StepOk, Chain, chain-given}
 use Rattle.us_format.proofs.Planned.{plan-recovers}
 use Rattle.us_invert.specs.declared.steps.PlanStep.{PlanStep}
 use Rattle.us_invert.specs.declared.steps.PlanStep.TheVariants.{Const, Level, Add, Sub, Join, Div, Rem, Order, Rows}
-use Rattle.us_invert.specs.declared.recovering.Cell.{Cell}
-use Rattle.us_invert.specs.Table.{tree_at}
-use Rattle.us_invert.specs.Plan.{give_at, steps_with, steps_of, step_at, item_at, IsEarlier, IsSuited, AreSteps, IsPlan}
-use Rattle.us_invert.specs.Recovery.{tables_of, found_of, cell_of, IsCoordinate, HasCoordinate, IsRecoveryOf, step_value, IsLevelStep, IsIndexValue}
+use Rattle.us_known.specs.Table.{tree_at}
+use Rattle.us_invert.specs.Plan.{give_at, steps_of, step_at, IsEarlier, IsSuited, IsPlan}
+use Rattle.us_invert.specs.Recovery.{IsCoordinate, HasCoordinate, IsRecoveryOf, step_value, IsLevelStep, IsIndexValue}
 use Rattle.us_invert.proofs.FromNodes.{same-bool}
 use Rattle.us_invert.proofs.StepLists.{length-steps, steps-at}
-use Rattle.us_invert.proofs.NodeTrees.{length-snoc}
+use Rattle.us_known.proofs.NodeTrees.{length-snoc}
 use Rattle.std.proofs.Math.Seq.{get_or-append_seam}
 
 -- ---- indices are numbers below 2^32

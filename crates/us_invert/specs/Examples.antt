@@ -1,5 +1,5 @@
 -- Whether a recovery of plain data can be run, as a test that computes.
-use Rattle.std.specs.Prelude.{ℕ, zero, suc, ◌+◌, ◌^◌, ℤ, pos, ◌+ℤ◌, int_le, int_lt, List, [], ◌∷◌, length, Bool, true, false, ◌&&◌, nat_lt, nat_le}
+use Rattle.std.specs.Prelude.{ℕ, ◌^◌, ℤ, pos, ◌+ℤ◌, int_le, int_lt, List, [], ◌∷◌, length, Bool, true, false, ◌&&◌, nat_lt, nat_le}
 use Rattle.us_expr.specs.declared.ranges.Range.{Range}
 use Rattle.us_expr.specs.Tree.{Tree, node_count, RowIndex, ColIndex, Number, Variable, Sum, Difference, Quotient, Remainder}
 use Rattle.us_expr.specs.Range.{range}

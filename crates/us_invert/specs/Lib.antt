@@ -1,7 +1,3 @@
-pub mod Table
-pub mod Rules
-pub mod Flags
-pub mod Code
 pub mod Sources
 pub mod Plan
 pub mod Made

@@ -1,14 +1,14 @@
 -- A plan in the making.
 use Rattle.std.specs.Prelude.{ℕ, ◌+◌, ◌<◌, List, [], ◌∷◌, ◌++◌, map, length, slice_index_or, slice_set, replicate, count_by, not, unwrap_or, Bool, false, ◌≡◌, IfSome, IfNone, Option, Some, None, is_some}
-use Rattle.us_expr.specs.Tree.{Tree, Quotient, Remainder}
+use Rattle.us_expr.specs.Tree.{Tree}
 use Rattle.us_format.specs.Known.{has, Steps}
-use Rattle.us_invert.specs.declared.table.Node.{Node}
+use Rattle.us_known.specs.declared.table.Node.{Node}
 use Rattle.us_invert.specs.declared.steps.Source.{Source}
 use Rattle.us_invert.specs.declared.steps.Source.TheVariants.{Constant, Level as LevelSource, Total, Less, Joined, Over, Rest, Order as OrderSource, Rows as RowsSource}
 use Rattle.us_invert.specs.declared.steps.PlanStep.{PlanStep}
 use Rattle.us_invert.specs.declared.steps.PlanStep.TheVariants.{Const, Level, Add, Sub, Join, Div, Rem, Order, Rows}
 use Rattle.us_invert.specs.declared.making.Making.{Making}
-use Rattle.us_invert.specs.Table.{tree_at, trees}
+use Rattle.us_known.specs.Table.{tree_at, trees}
 use Rattle.us_invert.specs.Plan.{steps_of, AreSteps}
 
 -- the number of a node's step, or 0

@@ -5,7 +5,7 @@ use Rattle.us_format.specs.Declaration.{Query, argument}
 use Rattle.us_format.specs.Known.{Give, Itself, OfLevel, Plus, Minus, Joined, Over, Rest as RestGive, OrderAt, RowsAt, Steps, known_of}
 use Rattle.us_invert.specs.declared.steps.PlanStep.{PlanStep}
 use Rattle.us_invert.specs.declared.steps.PlanStep.TheVariants.{Const, Level, Add, Sub, Join, Div, Rem, Order, Rows}
-use Rattle.us_invert.specs.Table.{tree_at}
+use Rattle.us_known.specs.Table.{tree_at}
 
 -- what a step stands for, where the steps have the expressions ts
 abbrev pub give_at : List Tree → PlanStep → Give

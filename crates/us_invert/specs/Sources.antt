@@ -6,13 +6,13 @@ use Rattle.us_expr.specs.Tree.{Tree}
 use Rattle.us_format.specs.Lists.{or_else, when, first_of}
 use Rattle.us_format.specs.Declaration.{Query, Reorder, Schedule, axis_of}
 use Rattle.us_format.specs.Known.{has, Give, Itself, OfLevel, Plus, Minus, Joined as JoinedGive, Over as OverGive, Rest as RestGive, OrderAt, RowsAt, from_sum, from_difference, from_quotient, from_reorder, from_schedule, from_operands}
-use Rattle.us_invert.specs.declared.table.Node.{Node}
-use Rattle.us_invert.specs.declared.table.Node.TheVariants.{Row, Col, Variable, Sum, Difference, Quotient, Remainder}
+use Rattle.us_known.specs.declared.table.Node.{Node}
+use Rattle.us_known.specs.declared.table.Node.TheVariants.{Row, Col, Variable, Sum, Difference, Quotient, Remainder}
 use Rattle.us_invert.specs.declared.steps.Source.{Source}
 use Rattle.us_invert.specs.declared.steps.Source.TheVariants.{Constant, Level, Total, Less, Joined, Over, Rest, Order, Rows}
 use Rattle.us_invert.specs.declared.steps.Way.{Way}
 use Rattle.us_invert.specs.declared.steps.Way.TheVariants.{Sum as BySum, Difference as ByDifference, Quotient as ByQuotient, Reorder as ByReorder, Schedule as BySchedule}
-use Rattle.us_invert.specs.Table.{tree_at, trees, IsNoNode}
+use Rattle.us_known.specs.Table.{tree_at, trees, IsNoNode}
 
 -- what a source stands for, where the nodes have the trees ts
 abbrev pub give_of : List Tree → Source → Give

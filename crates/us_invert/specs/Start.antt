@@ -1,14 +1,13 @@
 -- The steps at the start: constants and levels.
-use Rattle.std.specs.Prelude.{ℕ, suc, ◌<◌, ◌≤◌, List, [], ◌∷◌, length, slice_index_or, Bool, true, false, nat_eq, if◌then◌else◌, ◌≡◌, Option, Some, None, IfSome, IfNone}
+use Rattle.std.specs.Prelude.{ℕ, suc, ◌<◌, List, [], ◌∷◌, length, slice_index_or, Bool, false, nat_eq, if◌then◌else◌, ◌≡◌, Option, Some, None, IfSome, IfNone}
 use Rattle.us_expr.specs.Tree.{Tree}
-use Rattle.us_format.specs.Known.{has, Steps, start}
-use Rattle.us_invert.specs.declared.table.Node.{Node}
-use Rattle.us_invert.specs.declared.table.Node.TheVariants.{Number}
+use Rattle.us_format.specs.Known.{has}
+use Rattle.us_known.specs.declared.table.Node.{Node}
+use Rattle.us_known.specs.declared.table.Node.TheVariants.{Number}
 use Rattle.us_invert.specs.declared.steps.Source.{Source}
 use Rattle.us_invert.specs.declared.steps.Source.TheVariants.{Constant, Level}
-use Rattle.us_invert.specs.declared.making.Making.{Making}
 use Rattle.us_invert.specs.Sources.{has_step}
-use Rattle.us_invert.specs.Table.{trees, IsNumberOf, tree_at}
+use Rattle.us_known.specs.Table.{trees, IsNumberOf, tree_at}
 
 -- the node of an expression, if it is in the table
 pub record IsNodeOf (ns : List Node) (e : Tree) (o : Option ℕ) : Type 0 where

@@ -4,13 +4,13 @@ ghost use Rattle.us_expr.specs.Tree.{tree};
 ghost use Rattle.us_format.specs.Lists.{first_of};
 ghost use Rattle.us_format.specs.Declaration.{query_of, axis_of};
 ghost use Rattle.us_format.specs.Known.{order_for, rows_for, from_reorder, from_schedule, rule};
-ghost use Rattle.us_invert.specs.declared.table.Node.TheVariants.{Row, Variable};
-ghost use Rattle.us_invert.specs.Table.{tree_at, trees, IsTable};
+ghost use Rattle.us_known.specs.declared.table.Node.TheVariants.{Row, Variable};
+ghost use Rattle.us_known.specs.Table.{tree_at, trees, IsTable};
 ghost use Rattle.us_invert.specs.Sources.{has_step, sum_source, difference_source, IsQuotientSource, is_index, order_source, IsRowsSource, operands_source, from_way, by_ways, IsGiven};
 
 use crate::steps::{Source, Way};
-use crate::table::{Node, find};
 use us_expr::{Expr, Query};
+use us_known::{Node, find};
 
 /// Whether a node has a step.
 pub fn has_step(numbers: &[Option<u32>], n: usize) -> bool

@@ -2,14 +2,14 @@
 ghost use Rattle.std.specs.Prelude.{◌≡◌, ◌<◌, ◌≤◌, ◌^◌, false, length, map, IfOk, OnOk};
 ghost use Rattle.us_format.specs.Declaration.{query_of};
 ghost use Rattle.us_format.specs.Known.{step_for, one_pass, passes};
-ghost use Rattle.us_invert.specs.Table.{tree_at, trees, IsTable};
+ghost use Rattle.us_known.specs.Table.{tree_at, trees, IsTable};
 ghost use Rattle.us_invert.specs.Made.{number_at, step_of, made_steps, IsMaking, AddsStep};
 
 use crate::giving::{has_step, source_of};
 use crate::steps::{PlanStep, Source};
-use crate::table::Node;
 use std::alloc::AllocError;
 use us_expr::Query;
+use us_known::Node;
 
 /// The steps so far, each with its node; and of each node the number of its step.
 #[derive(Debug, Drop)]

@@ -4,20 +4,19 @@ ghost use Rattle.us_expr.specs.Tree.{tree, RowIndex, ColIndex};
 ghost use Rattle.us_format.specs.Declaration.{query_of};
 ghost use Rattle.us_format.specs.Known.{known_of, is_known};
 ghost use Rattle.us_format.specs.Recover.{plan_of, until_both};
-ghost use Rattle.us_invert.specs.Table.{tree_at, trees, tree_of, IsBelow, IsTable};
+ghost use Rattle.us_known.specs.Table.{tree_at, trees, tree_of, IsBelow, IsTable};
 ghost use Rattle.us_invert.specs.Plan.{AreSmall};
 ghost use Rattle.us_invert.specs.Made.{trees_at, made_steps, IsMaking, IsStepNumber};
 ghost use Rattle.us_invert.specs.declared.planning.PlanFault.TheVariants.{Memory, NotKnown};
 ghost use Rattle.us_expr.specs.declared.queries.Axis.TheVariants.{Rows, Cols};
 
-use crate::known_set::table_of;
 use crate::making::Making;
 use crate::recovery::RecoveryPlan;
 use crate::starting::make;
-use crate::table::{Node, find};
 use sqlite_items::Boxed;
 use std::alloc::{AllocError, Global};
 use us_expr::{Axis, Expr, Query};
+use us_known::{Node, find, table_of};
 
 /// Why there is no plan.
 #[derive(Clone, Copy, Debug, PartialEq, Eq)]

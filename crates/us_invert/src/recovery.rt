@@ -30,7 +30,7 @@ impl Model for RecoveryPlan {
     ghost use Rattle.std.specs.Prelude.{map};
     ghost use Rattle.us_expr.specs.Tree.{tree};
     ghost use Rattle.us_format.specs.Known.{Steps};
-    ghost use Rattle.us_invert.specs.Code.{steps_code};
+    ghost use Rattle.us_known.specs.Code.{steps_code};
     ghost use Rattle.us_invert.specs.Plan.{steps_of, IsPlan};
 
     ghost Value = { Steps };

@@ -3,17 +3,17 @@ ghost use Rattle.std.specs.Prelude.{◌≡◌, ◌<◌, ◌≤◌, ◌^◌, [], 
 ghost use Rattle.us_expr.specs.Tree.{tree};
 ghost use Rattle.us_format.specs.Declaration.{query_of};
 ghost use Rattle.us_format.specs.Known.{expressions, given_steps, start, with_step, at_start};
-ghost use Rattle.us_invert.specs.declared.table.Node.TheVariants.{Row};
-ghost use Rattle.us_invert.specs.Table.{tree_at, trees, IsTable};
+ghost use Rattle.us_known.specs.declared.table.Node.TheVariants.{Row};
+ghost use Rattle.us_known.specs.Table.{tree_at, trees, IsTable};
 ghost use Rattle.us_invert.specs.Made.{made_steps, IsMaking, IsEmpty};
 ghost use Rattle.us_invert.specs.Start.{AreNodesOf, is_node, place_of, start_source, SameAbove};
 ghost use Rattle.us_invert.specs.Sources.{has_step};
 
 use crate::making::{Making, add_step, passes};
 use crate::steps::Source;
-use crate::table::{Node, number_of};
 use std::alloc::{AllocError, Global};
 use us_expr::{Expr, Query};
+use us_known::{Node, number_of};
 
 /// The nodes of the levels.
 fn level_nodes(

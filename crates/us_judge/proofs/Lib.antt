@@ -14,3 +14,4 @@ pub mod PartPlans
 pub mod Counting
 pub mod ValidExpressions
 pub mod Accepted
+pub mod EntryFormat

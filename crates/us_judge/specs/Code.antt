@@ -3,7 +3,7 @@ use Rattle.std.specs.Prelude.{ℕ, zero, suc, Bool, List, ◌≡◌, ◌⊎◌, 
 use Rattle.std.proofs.Common.{inl, inr}
 use Rattle.std.specs.Coded.{Coded, code_by, coded×, coded⊎, coded_list, coded_ℕ, coded_bool}
 use Rattle.us_expr.specs.Tree.{Tree}
-use Rattle.us_invert.specs.Code.{tree_code, trees_code}
+use Rattle.us_known.specs.Code.{tree_code, trees_code}
 use Rattle.us_decl.specs.declared.column.Column.{Column}
 use Rattle.us_decl.specs.declared.column.Column.TheVariants.{Level, Val}
 use Rattle.us_decl.specs.Declares.{Query, SumOf, EnumerateOf, ReorderOf, ScheduleOf, DeclaredPart, DeclaredHead, DeclaredBody, Undivided, Divided, Declared}

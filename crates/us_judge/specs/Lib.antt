@@ -10,3 +10,4 @@ pub mod Causes
 pub mod Buffers
 pub mod Code
 pub mod Format
+pub mod Entry

@@ -14,7 +14,7 @@ use std::alloc::{AllocError, Global};
 use us_decl::Part;
 use us_expr::{Expr, Query};
 use us_format::Kind;
-use us_invert::{KnownSet, known};
+use us_known::{KnownSet, known};
 
 /// The kinds of the levels of a part.
 pub type Kinds = Items<Kind>;

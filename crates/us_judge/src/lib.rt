@@ -4,6 +4,7 @@
 #![tactic(auto)]
 
 mod buffers;
+mod entry;
 mod format;
 mod head;
 mod kinds;
@@ -16,6 +17,7 @@ mod refusal;
 mod rules;
 mod variables;
 
+pub use entry::entry_format;
 pub use format::{Format, judge};
 pub use laws::{accepted_is_lawful, worked_refusals};
 pub use refusal::{JudgeFault, Refusal};

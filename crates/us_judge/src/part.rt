@@ -19,7 +19,7 @@ use crate::rules::{
 use std::alloc::Global;
 use us_decl::Part;
 use us_expr::Expr;
-use us_invert::{KnownSet, known};
+use us_known::{KnownSet, known};
 
 /// What the rules that were asked say of a head or a part.
 #[derive(Clone, Copy, Debug, PartialEq, Eq)]

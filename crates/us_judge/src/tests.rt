@@ -3,7 +3,7 @@ ghost use Rattle.std.specs.Prelude.{IfOk};
 ghost use Rattle.us_decl.specs.Declares.{IsValid};
 ghost use Rattle.us_decl.specs.Views.{decl_view};
 
-use crate::{Format, JudgeFault, Kind, Refusal, judge};
+use crate::{Format, JudgeFault, Kind, Refusal, entry_format, judge};
 use std::alloc::Global;
 use std::test::Fail;
 use us_decl::{Decl, parse_one};
@@ -237,5 +237,14 @@ fn formats_have_kinds_and_buffers(rt: HostRuntime) -> Result<(), Fail> {
         parsed(alloc, b"format dia { map (j - i, i) trim 0 merge 0 }")?,
     );
     assert!(rt; stores(dia, alloc, Kind::Compressed, Kind::Full, 3));
+    Ok(())
+}
+
+#[test]
+fn entries_are_a_list_of_rows_and_columns(rt: HostRuntime) -> Result<(), Fail> {
+    let entry = entry_format(rt.alloc())?;
+    assert_eq!(rt; entry.decl().name.as_str(), "entry");
+    assert_eq!(rt; entry.buffers(), 4);
+    assert!(rt; has_kinds(&entry, Kind::Listed, Kind::Slot));
     Ok(())
 }

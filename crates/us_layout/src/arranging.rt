@@ -61,8 +61,9 @@ fn push_own(
     Ok(())
 }
 
-/// The columns of a pack in one list.
-fn pack_cells(
+/// The columns of a pack in one list, interleaved: of each column the list of its piece. Fails only where memory is
+/// wanting.
+pub fn pack_cells(
     alloc: Global,
     pieces: &[Piece],
     lists: &Buffers,

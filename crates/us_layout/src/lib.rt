@@ -6,8 +6,9 @@ mod arranging;
 mod interleaving;
 mod pieces;
 
-pub use arranging::arrange;
+pub use arranging::{arrange, pack_cells};
 pub use interleaving::{interleave, interleaving_is_undone, separate};
+pub use pieces::{Piece, is_packed, pieces_of};
 
 #[cfg(test)]
 mod tests;

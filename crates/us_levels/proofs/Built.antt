@@ -1,6 +1,6 @@
 -- From what the builder of a part says to what the format's buffers are.
-use Rattle.std.specs.Prelude.{Option, Some, None, ℤ, min}
-use Rattle.std.proofs.Common.{◌≡◌, ℕ, ◌+◌, ◌<◌, ◌≤◌, List, [], ◌∷◌, ◌++◌, map, filter, length, All, Bool, false, not, append-nil, refl, sym, ap, ap₂, subst, ◌∙◌, arith}
+use Rattle.std.specs.Prelude.{Some, None, ℤ}
+use Rattle.std.proofs.Common.{◌≡◌, ℕ, ◌<◌, ◌≤◌, List, [], ◌∷◌, ◌++◌, map, filter, length, All, false, not, append-nil, refl, sym, ap, ap₂, subst, ◌∙◌, arith}
 use Rattle.std.specs.List.{list_any}
 use Rattle.std.proofs.lemmas.List.{length-map}
 use Rattle.std.proofs.lemmas.List.Elements.{All-nil, All-cons}
@@ -9,7 +9,7 @@ use Rattle.us_matrix.specs.declared.matrix.Triple.{Triple}
 use Rattle.us_matrix.specs.Map.{Map, IsMatrix}
 use Rattle.us_matrix.specs.declared.shape.Shape as code
 use Rattle.us_format.specs.declared.Kind.{Kind}
-use Rattle.us_format.specs.Matrix.{Shape, Entry, IsMatrixOf}
+use Rattle.us_format.specs.Matrix.{Shape, IsMatrixOf}
 use Rattle.us_format.specs.Program.{shape_in, entries_in, plain_shape, plain_entry, plain_entries}
 use Rattle.us_format.specs.Declaration.{Column, Part, Declaration}
 use Rattle.us_format.specs.Meaning.{meaning}
@@ -19,7 +19,6 @@ use Rattle.us_format.specs.Queries.{extents_of}
 use Rattle.us_format.specs.Buffers.{buffers, size, piece_buffers}
 use Rattle.us_format.specs.Reading.{limit}
 use Rattle.us_format.proofs.FromProgram.{program-matrix}
-use Rattle.us_format.proofs.Members.{Mem-all}
 use Rattle.us_format.proofs.Pieces.{pieces-distinct, buffers-of-pieces, as-many-buffers}
 use Rattle.us_format.proofs.Whole.{buffers-mean-matrix, small-without-queries}
 use Rattle.us_decl.specs.declared.column.Column as held_column
@@ -31,7 +30,7 @@ use Rattle.us_judge.specs.Acceptance.{first_refusal}
 use Rattle.us_judge.specs.Format.{part_at}
 use Rattle.us_judge.specs.Kinds.{kinds_of}
 use Rattle.us_judge.specs.Views.{declaration_of, column_of, plain_part, plain_body}
-use Rattle.us_judge.proofs.LawfulDeclarations.{accepted-declaration, accepted-one}
+use Rattle.us_judge.proofs.LawfulDeclarations.{accepted-declaration}
 use Rattle.us_judge.proofs.Valid.{plain-is}
 use Rattle.us_build.specs.Pieces.{IsPlain, IsBuildable, piece_size}
 use Rattle.us_layout.specs.Arranging.{PacksHaveOneLength}

@@ -1,2 +1,9 @@
 pub mod OnePart
 pub mod Built
+pub mod Unlike
+pub mod Owning
+pub mod Behind
+pub mod Agreeing
+pub mod Walked
+pub mod Numbers
+pub mod Starting

@@ -1,5 +1,5 @@
 -- An accepted declaration has one part without queries, so its buffers and its size are those of this part.
-use Rattle.std.specs.Prelude.{Option, Some, None, ℤ}
+use Rattle.std.specs.Prelude.{None, ℤ}
 use Rattle.std.proofs.Common.{◌≡◌, ℕ, ◌+◌, ◌<◌, ◌≤◌, List, [], ◌∷◌, ◌++◌, map, filter, length, count_by, All, true, inl, inr, refl, sym, ap, ap₂, subst, ◌∙◌, arith, append-nil, slice_index_or, get_or, sum_by}
 use Rattle.std.specs.List.{range_with_len, sum}
 use Rattle.std.proofs.Math.ListN.{get_or-map}
@@ -16,16 +16,16 @@ use Rattle.us_matrix.specs.declared.shape.Shape as code
 use Rattle.us_format.specs.declared.Kind.{Kind}
 use Rattle.us_format.specs.Lists.{nth, head}
 use Rattle.us_format.specs.Matrix.{Shape, Entry, IsMatrixOf, earlier}
-use Rattle.us_format.specs.Program.{shape_in, entries_in, plain_shape, plain_entries}
+use Rattle.us_format.specs.Program.{plain_entries}
 use Rattle.us_format.specs.Declaration.{Part, Declaration, Query, Column, has_extent, has_table}
-use Rattle.us_format.specs.Kinds.{Level, kind, levels_of}
+use Rattle.us_format.specs.Kinds.{Level, levels_of}
 use Rattle.us_format.specs.Packs.{Buffer, written, packed, pieces, CellsOf, nothing, buffer_of}
 use Rattle.us_format.specs.Positions.{Row, count_below, down, rows_of}
 use Rattle.us_format.specs.Queries.{extents_of}
 use Rattle.us_format.specs.Buffers.{buffers, size, piece_buffers, part_buffers, part_counts, parts_of, shares, holds, all_buffers, buffers_at, level_buffers, val_buffer, extent_buffer, table_buffer}
 use Rattle.us_format.specs.Reading.{limit}
 use Rattle.us_format.specs.Rules.{IsLawful, ArePacksLawful}
-use Rattle.us_format.specs.Laws.{cells_of, unpacked_size}
+use Rattle.us_format.specs.Laws.{cells_of}
 use Rattle.us_format.proofs.FromProgram.{program-matrix}
 use Rattle.us_format.proofs.Members.{Mem-all}
 use Rattle.us_format.proofs.Agree.{Sound}
@@ -40,16 +40,13 @@ use Rattle.us_format.proofs.PartMeaning.{place_of, one-place, place-below}
 use Rattle.us_format.proofs.Shuffled.{count-within, count-all}
 use Rattle.us_format.proofs.Values.{last_count, values-length}
 use Rattle.us_format.proofs.Places.{packs-long}
-use Rattle.us_decl.specs.declared.decl.Decl.{Decl}
 use Rattle.us_decl.specs.declared.decl.Part as held
 use Rattle.us_decl.specs.Declares.{Declared, IsValid}
-use Rattle.us_decl.specs.Views.{decl_view}
 use Rattle.us_judge.specs.Acceptance.{first_refusal}
 use Rattle.us_judge.specs.Format.{part_at}
 use Rattle.us_judge.specs.Kinds.{kinds_of}
-use Rattle.us_judge.specs.Views.{declaration_of, plain_part, plain_body}
+use Rattle.us_judge.specs.Views.{declaration_of, plain_part}
 use Rattle.us_judge.proofs.LawfulDeclarations.{HasPlainLevels, accepted-one, accepted-levels, accepted-lawful, accepted-packs}
-use Rattle.us_judge.proofs.Valid.{plain-is}
 use Rattle.us_build.specs.Levels.{IsSimple}
 use Rattle.us_build.specs.Pieces.{IsPlain, IsBuildable, piece_size}
 use Rattle.us_layout.specs.Arranging.{PacksHaveOneLength, list_of}

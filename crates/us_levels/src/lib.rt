@@ -1,12 +1,17 @@
-//! The buffers of a matrix in a format: their sizes, and the plain builder.
+//! The buffers of a matrix in a format: their size, the plain builder, and the first difference of given buffers from them.
 //!
-//! What both of these mean stands in `us_format`; this crate says it of formats and matrices of the program.
+//! What all of these mean stands in `us_format`; this crate says it of formats and matrices of the program.
 #![tactic(auto)]
 
 mod building;
+mod comparing;
+mod differing;
 
 pub use building::{build_plain, size_of};
+pub use differing::{Difference, differs};
 pub use us_build::BuildFault;
 
+#[cfg(test)]
+mod difference_tests;
 #[cfg(test)]
 mod tests;

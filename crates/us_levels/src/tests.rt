@@ -18,11 +18,25 @@ struct Case {
     size: u64,
 }
 
-const CASES: [Case; 5] = [
+const CASES: [Case; 7] = [
     Case {
         text: b"format csr { map (i, j) trim 1 merge 1 }",
         lists: &[&[0, 2, 2, 3], &[0, 2, 1], &[5, 2, -7]],
         size: 16,
+    },
+    Case {
+        text: b"format csc { map (j, i) trim 1 merge 1 }",
+        lists: &[&[0, 1, 2, 3, 3], &[0, 2, 0], &[5, -7, 2]],
+        size: 18,
+    },
+    Case {
+        text: b"format bcsr { map (i / 2, j / 2, i % 2, j % 2) trim 1 merge 1 }",
+        lists: &[
+            &[0, 2, 3],
+            &[0, 1, 0],
+            &[5, 0, 0, 0, 2, 0, 0, 0, 0, -7, 0, 0],
+        ],
+        size: 41,
     },
     Case {
         text: b"format dia { map (j - i, i) trim 0 merge 0 }",

@@ -6,7 +6,13 @@ use Rattle.std.specs.Str.Parse.{digits_value}
 use Rattle.std.specs.Prelude.{codes}
 use Rattle.us_mm.specs.Words.{is_numeral}
 use Rattle.us_mm.specs.Reads.{is_side}
-use Rattle.us_top.specs.Commands.{texts, command_of, check_of, side_of, Canon}
+use Rattle.us_top.specs.Commands.{texts, command_of, check_of, side_of, convert_of, Canon, Info}
+
+two_words : (words : List (String Global)) (a b : String Global) → length words ≡ 2 → texts words ≡ string_bytes (get_or words 0 a) ∷ string_bytes (get_or words 1 b) ∷ []
+two_words [] a b h = absurd (omega (arith, h))
+two_words (x ∷ []) a b h = absurd (omega (arith, h))
+two_words (x ∷ y ∷ []) a b h = refl
+two_words (x ∷ y ∷ z ∷ ws) a b h = absurd (omega (arith, h))
 
 three_words : (words : List (String Global)) (a b c : String Global) → length words ≡ 3 → texts words ≡ string_bytes (get_or words 0 a) ∷ string_bytes (get_or words 1 b) ∷ string_bytes (get_or words 2 c) ∷ []
 three_words [] a b c h = absurd (omega (arith, h))
@@ -24,18 +30,35 @@ four_words (x ∷ y ∷ z ∷ []) a b c d h = absurd (omega (arith, h))
 four_words (x ∷ y ∷ z ∷ w ∷ []) a b c d h = refl
 four_words (x ∷ y ∷ z ∷ w ∷ v ∷ ws) a b c d h = absurd (omega (arith, h))
 
-pub no_command : (words : List (String Global)) → length words ≢ 3 → length words ≢ 4 → command_of (texts words) ≡ None
+six_words : (words : List (String Global)) (a b c d e f : String Global) → length words ≡ 6
+    → texts words ≡ string_bytes (get_or words 0 a) ∷ string_bytes (get_or words 1 b) ∷ string_bytes (get_or words 2 c) ∷ string_bytes (get_or words 3 d) ∷ string_bytes (get_or words 4 e) ∷ string_bytes (get_or words 5 f) ∷ []
+six_words [] a b c d e f h = absurd (omega (arith, h))
+six_words (x ∷ []) a b c d e f h = absurd (omega (arith, h))
+six_words (x ∷ y ∷ []) a b c d e f h = absurd (omega (arith, h))
+six_words (x ∷ y ∷ z ∷ []) a b c d e f h = absurd (omega (arith, h))
+six_words (x ∷ y ∷ z ∷ w ∷ []) a b c d e f h = absurd (omega (arith, h))
+six_words (x ∷ y ∷ z ∷ w ∷ v ∷ []) a b c d e f h = absurd (omega (arith, h))
+six_words (x ∷ y ∷ z ∷ w ∷ v ∷ u ∷ []) a b c d e f h = refl
+six_words (x ∷ y ∷ z ∷ w ∷ v ∷ u ∷ t ∷ ws) a b c d e f h = absurd (omega (arith, h))
+
+pub no_command : (words : List (String Global)) → length words ≢ 2 → length words ≢ 3 → length words ≢ 4 → length words ≢ 6 → command_of (texts words) ≡ None
 unfolding command_of
-no_command [] h k = refl
-no_command (x ∷ []) h k = refl
-no_command (x ∷ y ∷ []) h k = refl
-no_command (x ∷ y ∷ z ∷ []) h k = absurd (h refl)
-no_command (x ∷ y ∷ z ∷ w ∷ []) h k = absurd (k refl)
-no_command (x ∷ y ∷ z ∷ w ∷ v ∷ ws) h k = refl
+no_command [] g h k l = refl
+no_command (x ∷ []) g h k l = refl
+no_command (x ∷ y ∷ []) g h k l = absurd (g refl)
+no_command (x ∷ y ∷ z ∷ []) g h k l = absurd (h refl)
+no_command (x ∷ y ∷ z ∷ w ∷ []) g h k l = absurd (k refl)
+no_command (x ∷ y ∷ z ∷ w ∷ v ∷ []) g h k l = refl
+no_command (x ∷ y ∷ z ∷ w ∷ v ∷ u ∷ []) g h k l = absurd (l refl)
+no_command (x ∷ y ∷ z ∷ w ∷ v ∷ u ∷ t ∷ ws) g h k l = refl
 
 -- the bytes of a word that was taken from its place
 word_is : (words : List (String Global)) (k : ℕ) (a : String Global) (x : List ℕ) → a ≡ get_or words k a → x ≡ string_bytes a → string_bytes (get_or words k a) ≡ x
 word_is words k a x p e = ap (λ s. string_bytes s) (sym p) ∙ sym e
+
+info_named : (command input : List ℕ) (b : Bool) → bytes_eq command (codes "info") ≡ b → command_of (command ∷ input ∷ []) ≡ cond b (Some (Info input)) None
+unfolding command_of
+info_named command input b h = ap (λ v. cond v (Some (Info input)) None) h
 
 canon_named : (command input output : List ℕ) (b : Bool) → bytes_eq command (codes "canon") ≡ b → command_of (command ∷ input ∷ output ∷ []) ≡ cond b (Some (Canon input output)) None
 unfolding command_of
@@ -45,6 +68,40 @@ check_named : (command formats rows cols : List ℕ) (b : Bool) → bytes_eq com
     → command_of (command ∷ formats ∷ rows ∷ cols ∷ []) ≡ cond b (check_of formats (side_of rows) (side_of cols)) None
 unfolding command_of
 check_named command formats rows cols b h = ap (λ v. cond v (check_of formats (side_of rows) (side_of cols)) None) h
+
+convert_named : (command formats input chain output listing : List ℕ) (b : Bool) → bytes_eq command (codes "convert") ≡ b
+    → command_of (command ∷ formats ∷ input ∷ chain ∷ output ∷ listing ∷ []) ≡ cond b (convert_of formats input chain output listing) None
+unfolding command_of
+convert_named command formats input chain output listing b h = ap (λ v. cond v (convert_of formats input chain output listing) None) h
+
+pub words_are_info : (words : List (String Global)) (a b : String Global) (x y : List ℕ) → length words ≡ 2 → a ≡ get_or words 0 a → b ≡ get_or words 1 b → x ≡ string_bytes a → y ≡ string_bytes b
+    → bytes_eq x (codes "info") ≡ true → command_of (texts words) ≡ Some (Info y)
+words_are_info words a b x y len p q e f h =
+    ap command_of (two_words words a b len) ∙ ap (λ t. command_of (t ∷ string_bytes (get_or words 1 b) ∷ [])) (word_is words 0 a x p e) ∙ ap (λ t. command_of (x ∷ t ∷ [])) (word_is words 1 b y q f)
+    ∙ info_named x y true h
+
+pub two_are_other : (words : List (String Global)) (a : String Global) (x : List ℕ) → length words ≡ 2 → a ≡ get_or words 0 a → x ≡ string_bytes a → bytes_eq x (codes "info") ≡ false → command_of (texts words) ≡ None
+two_are_other words a x len p e h =
+    ap command_of (two_words words a a len) ∙ ap (λ t. command_of (t ∷ string_bytes (get_or words 1 a) ∷ [])) (word_is words 0 a x p e) ∙ info_named x _ false h
+
+pub words_are_convert : (words : List (String Global)) (a b c d e f : String Global) (u v w x y z : List ℕ) → length words ≡ 6
+    → a ≡ get_or words 0 a → b ≡ get_or words 1 b → c ≡ get_or words 2 c → d ≡ get_or words 3 d → e ≡ get_or words 4 e → f ≡ get_or words 5 f
+    → u ≡ string_bytes a → v ≡ string_bytes b → w ≡ string_bytes c → x ≡ string_bytes d → y ≡ string_bytes e → z ≡ string_bytes f → bytes_eq u (codes "convert") ≡ true
+    → command_of (texts words) ≡ convert_of v w x y z
+words_are_convert words a b c d e f u v w x y z len pa pb pc pd pe pf ea eb ec ed ee ef h =
+    ap command_of (six_words words a b c d e f len)
+    ∙ ap (λ t. command_of (t ∷ string_bytes (get_or words 1 b) ∷ string_bytes (get_or words 2 c) ∷ string_bytes (get_or words 3 d) ∷ string_bytes (get_or words 4 e) ∷ string_bytes (get_or words 5 f) ∷ [])) (word_is words 0 a u pa ea)
+    ∙ ap (λ t. command_of (u ∷ t ∷ string_bytes (get_or words 2 c) ∷ string_bytes (get_or words 3 d) ∷ string_bytes (get_or words 4 e) ∷ string_bytes (get_or words 5 f) ∷ [])) (word_is words 1 b v pb eb)
+    ∙ ap (λ t. command_of (u ∷ v ∷ t ∷ string_bytes (get_or words 3 d) ∷ string_bytes (get_or words 4 e) ∷ string_bytes (get_or words 5 f) ∷ [])) (word_is words 2 c w pc ec)
+    ∙ ap (λ t. command_of (u ∷ v ∷ w ∷ t ∷ string_bytes (get_or words 4 e) ∷ string_bytes (get_or words 5 f) ∷ [])) (word_is words 3 d x pd ed)
+    ∙ ap (λ t. command_of (u ∷ v ∷ w ∷ x ∷ t ∷ string_bytes (get_or words 5 f) ∷ [])) (word_is words 4 e y pe ee)
+    ∙ ap (λ t. command_of (u ∷ v ∷ w ∷ x ∷ y ∷ t ∷ [])) (word_is words 5 f z pf ef) ∙ convert_named u v w x y z true h
+
+pub six_are_other : (words : List (String Global)) (a : String Global) (x : List ℕ) → length words ≡ 6 → a ≡ get_or words 0 a → x ≡ string_bytes a → bytes_eq x (codes "convert") ≡ false → command_of (texts words) ≡ None
+six_are_other words a x len p e h =
+    ap command_of (six_words words a a a a a a len)
+    ∙ ap (λ t. command_of (t ∷ string_bytes (get_or words 1 a) ∷ string_bytes (get_or words 2 a) ∷ string_bytes (get_or words 3 a) ∷ string_bytes (get_or words 4 a) ∷ string_bytes (get_or words 5 a) ∷ [])) (word_is words 0 a x p e)
+    ∙ convert_named x _ _ _ _ _ false h
 
 pub words_are_canon : (words : List (String Global)) (a b c : String Global) (x y z : List ℕ) → length words ≡ 3 → a ≡ get_or words 0 a → b ≡ get_or words 1 b → c ≡ get_or words 2 c
     → x ≡ string_bytes a → y ≡ string_bytes b → z ≡ string_bytes c → bytes_eq x (codes "canon") ≡ true → command_of (texts words) ≡ Some (Canon y z)

@@ -1,13 +1,15 @@
--- Reading the matrix or the library of a file.
-use Rattle.std.proofs.Common.{◌≡◌, ℕ, ◌+◌, ◌-◌, ◌<◌, ◌≤◌, ◌&&◌, nat_lt, Bool, true, false, cond, List, [], ◌∷◌, length, map, get_or, All, Ok, Err, Result, None, refl, sym, ap, ◌∙◌, subst, inl, inr, arith}
+-- Reading the input or the library in a file.
+use Rattle.std.proofs.Common.{◌≡◌, ℕ, ◌+◌, ◌-◌, ◌<◌, ◌≤◌, ◌&&◌, nat_lt, take, Bool, true, false, cond, List, [], ◌∷◌, length, map, get_or, All, Ok, Err, Result, None, refl, sym, ap, ◌∙◌, subst, inl, inr, arith}
 use Rattle.std.proofs.lemmas.Bool.{cases_lt, false≢true}
-use Rattle.std.proofs.lemmas.Bool.Decides.{nat_tests}
+use Rattle.std.proofs.lemmas.Bool.Decides.{nat_tests, same_from_decides}
+use Rattle.std.specs.Str.{bytes_eq}
+use Rattle.std.proofs.lemmas.Slice.Eq.{bytes_eq-Decides}
 use Rattle.std.proofs.lemmas.List.{get_or_append_left, get_or_at, get_or-map, length-map, length-append}
 use Rattle.us_matrix.specs.Map.{Map}
 use Rattle.us_mm.specs.declared.fault.MmFault.{MmFault}
 use Rattle.us_mm.specs.declared.fault.MmFault.TheVariants as mm
 use Rattle.us_mm.specs.Reads.{matrix_in}
-use Rattle.us_mm.specs.Views.{IsFaultOf}
+use Rattle.us_mm.specs.Views.{IsFaultOf, Gives}
 use Rattle.us_decl.specs.declared.library.Library.{Library}
 use Rattle.us_decl.specs.declared.parsed.DeclFault.{DeclFault}
 use Rattle.us_decl.specs.declared.parsed.DeclFault.TheVariants as decl
@@ -19,37 +21,136 @@ use Rattle.us_decl.specs.Parses.{ParsesLibrary}
 use Rattle.us_decl.specs.Views.{decl_view}
 use Rattle.us_top.specs.declared.status.Slot.{Slot}
 use Rattle.us_top.specs.declared.status.Status.{Status}
-use Rattle.us_top.specs.declared.status.Status.TheVariants.{TooLong}
+use Rattle.us_matrix.specs.declared.matrix.Triple.{Triple}
+use Rattle.us_format.specs.Program.{plain_entry, shape_in, entries_in}
+use Rattle.us_container.specs.declared.fault.ContainerFault.{ContainerFault}
+use Rattle.us_container.specs.declared.fault.ContainerFault.TheVariants as container
+use Rattle.us_container.specs.Bytes.{magic}
+use Rattle.us_container.specs.Contained.{Contained, IsContained, TellsContained, contained_in}
+use Rattle.us_check.specs.declared.held.Held.{Held}
+use Rattle.us_outside.specs.Causes.{Faults}
+use Rattle.us_top.specs.declared.status.Status.TheVariants.{Done, Words, TooLong, Memory, ReadFault, WriteFault}
+use Rattle.us_top.specs.Commands.{Use}
 use Rattle.us_top.specs.Library.{library_in, told}
-use Rattle.us_top.specs.Outcome.{of_file, matrix_at, matrix_step, library_at, library_step}
-use Rattle.us_top.specs.Answers.{IsStep, refusal_of, formats_refusal_of}
+use Rattle.us_top.specs.Steps.{Input, OfFile, OfContainer, of_file, bytes_at, matrix_step, container_step, library_step, read_input, map_of, triple_of}
+use Rattle.us_top.specs.Answers.{IsStep, IsRefusal, IsInnerRefusal, refusal_of, formats_refusal_of, container_refusal_of}
+use Rattle.us_top.specs.Views.{contained_of}
 
-pub too_long : {A : Type 0} (slot : Slot) (bytes : List ℕ) (read : Result A Status) → 1073741824 < length bytes → of_file slot bytes read ≡ Err (TooLong slot)
+pub too_long : (slot : Slot) (bytes : List ℕ) → 1073741824 < length bytes → bytes_at slot bytes ≡ Err (TooLong slot)
 unfolding of_file
-too_long slot bytes read h =
+too_long slot bytes h =
     let test : nat_lt 1073741824 (length bytes) ≡ true = grind (arith, nat_tests) in
-    ap (λ b. cond b (Err (TooLong slot)) read) test
+    ap (λ b. cond b (Err (TooLong slot)) (Ok bytes)) test
 
-short : {A : Type 0} (slot : Slot) (bytes : List ℕ) (read : Result A Status) → length bytes ≤ 1073741824 → of_file slot bytes read ≡ read
+pub loaded : (slot : Slot) (bytes content : List ℕ) → bytes ≡ content → length bytes ≤ 1073741824 → bytes_at slot content ≡ Ok bytes
 unfolding of_file
-short slot bytes read h =
-    let test : nat_lt 1073741824 (length bytes) ≡ false = grind (arith, nat_tests) in
-    ap (λ b. cond b (Err (TooLong slot)) read) test
+loaded slot bytes content e h =
+    let test : nat_lt 1073741824 (length content) ≡ false = grind (arith, nat_tests, ap length e) in
+    ap (λ b. cond b (Err (TooLong slot)) (Ok content)) test ∙ ap Ok (sym e)
 
--- ---- matrices
+ok_behind : {A : Type 0} (b : Bool) (slot : Slot) (content bytes : List ℕ) (read : List ℕ → Result A Status) → cond b (Err (TooLong slot)) (Ok content) ≡ Ok bytes
+    → cond b (Err (TooLong slot)) (read content) ≡ read bytes
+ok_behind true slot content bytes read h = cc
+ok_behind false slot content bytes read h =
+    let e : content ≡ bytes = cc in
+    ap read e
 
-pub is_read : (slot : Slot) (bytes : List ℕ) (m : Map) → length bytes ≤ 1073741824 → matrix_in bytes ≡ Ok m → matrix_at slot bytes ≡ Ok m
-is_read slot bytes m le h = short slot bytes (matrix_step slot (matrix_in bytes)) le ∙ ap (matrix_step slot) h
+-- what is read of a file that was loaded
+pub read_behind : {A : Type 0} (slot : Slot) (content bytes : List ℕ) (read : List ℕ → Result A Status) → bytes_at slot content ≡ Ok bytes → of_file slot content (read content) ≡ read bytes
+unfolding of_file
+read_behind slot content bytes read h = ok_behind (nat_lt 1073741824 (length content)) slot content bytes read h
 
-is_refused : (slot : Slot) (fault : MmFault) (bytes : List ℕ) → length bytes ≤ 1073741824 → IsFaultOf fault (matrix_in bytes) → IsStep {A = Map} (matrix_at slot bytes) (Err (refusal_of slot fault))
-is_refused slot mm.Memory bytes le h = tt
-is_refused slot fault bytes le h = short slot bytes (matrix_step slot (matrix_in bytes)) le ∙ ap (matrix_step slot) h
+err_behind : {A : Type 0} (b : Bool) (slot : Slot) (content : List ℕ) (read : Result A Status) (status : Status) → cond b (Err (TooLong slot)) (Ok content) ≡ Err status
+    → cond b (Err (TooLong slot)) read ≡ Err status
+err_behind true slot content read status h =
+    let e : TooLong slot ≡ status = cc in
+    ap Err e
+err_behind false slot content read status h = cc
 
-pub refused_at : (slot : Slot) (fault : MmFault) (bytes content : List ℕ) (status : Status) → bytes ≡ content → status ≡ refusal_of slot fault → length bytes ≤ 1073741824 → IsFaultOf fault (matrix_in bytes)
-    → IsStep {A = Map} (matrix_at slot content) (Err status)
-refused_at slot fault bytes content status e s le h =
-    let At : List ℕ → Status → Type 0 = λ b t. IsStep {A = Map} (matrix_at slot b) (Err t) in
-    subst (λ b. At b status) e (subst (At bytes) (sym s) (is_refused slot fault bytes le h))
+-- a file that wasn't loaded isn't read
+pub unread_behind : {A : Type 0} (slot : Slot) (content : List ℕ) (read : Result A Status) (status : Status) → IsStep {A = List ℕ} (bytes_at slot content) (Err status)
+    → IsStep {A = A} (of_file slot content read) (Err status)
+unfolding of_file
+unread_behind slot content read Memory h = tt
+unread_behind slot content read (ReadFault s) h = tt
+unread_behind slot content read status h = err_behind (nat_lt 1073741824 (length content)) slot content read status h
+
+-- ---- refusals
+
+pub inner_refusal : (uses : List Use) (before now : Faults) (status : Status) → IsInnerRefusal status → IsRefusal uses before now status
+inner_refusal uses before now Done h = h
+inner_refusal uses before now Words h = h
+inner_refusal uses before now (WriteFault slot) h = h
+inner_refusal uses before now (ReadFault slot) h = absurd h
+inner_refusal uses before now status h = tt
+
+-- ---- inputs
+
+pub eq_turned : (xs ys : List ℕ) → bytes_eq xs ys ≡ bytes_eq ys xs
+eq_turned xs ys =
+    same_from_decides (bytes_eq xs ys) (bytes_eq ys xs) (bytes_eq-Decides xs ys) (λ h. sym ((bytes_eq-Decides ys xs).0 h), λ e. (bytes_eq-Decides ys xs).1 (sym e))
+
+by_magic : (slot : Slot) (bytes : List ℕ) (b : Bool) → b ≡ bytes_eq magic (take 7 bytes) → read_input slot bytes ≡ cond b (container_step (contained_in bytes)) (matrix_step slot (matrix_in bytes))
+by_magic slot bytes b h = ap (λ t. cond t (container_step (contained_in bytes)) (matrix_step slot (matrix_in bytes))) (eq_turned (take 7 bytes) magic ∙ sym h)
+
+pub matrix_read : (slot : Slot) (bytes : List ℕ) (b : Bool) (m : Map) → b ≡ bytes_eq magic (take 7 bytes) → b ≡ false → matrix_in bytes ≡ Ok m → read_input slot bytes ≡ Ok (OfFile m)
+matrix_read slot bytes b m e f h = by_magic slot bytes b e ∙ ap (λ t. cond t (container_step (contained_in bytes)) (matrix_step slot (matrix_in bytes))) f ∙ ap (matrix_step slot) h
+
+refused_matrix : (slot : Slot) (fault : MmFault) (read : Result Map MmFault) → IsFaultOf fault read → IsStep {A = Input} (matrix_step slot read) (Err (refusal_of slot fault))
+refused_matrix slot mm.Memory read h = tt
+refused_matrix slot fault read h = ap (matrix_step slot) h
+
+pub matrix_refused : (slot : Slot) (bytes : List ℕ) (b : Bool) (fault : MmFault) (status : Status) → b ≡ bytes_eq magic (take 7 bytes) → b ≡ false → status ≡ refusal_of slot fault → IsFaultOf fault (matrix_in bytes)
+    → IsStep {A = Input} (read_input slot bytes) (Err status)
+matrix_refused slot bytes b fault status e f s h =
+    let At : Result Input Status → Status → Type 0 = λ r t. IsStep {A = Input} r (Err t) in
+    let read = by_magic slot bytes b e ∙ ap (λ t. cond t (container_step (contained_in bytes)) (matrix_step slot (matrix_in bytes))) f in
+    subst (λ r. At r status) (sym read) (subst (At (matrix_step slot (matrix_in bytes))) (sym s) (refused_matrix slot fault (matrix_in bytes) h))
+
+-- what a container holds is what the held matrix shows
+same_contained : (h : Held) (c : Contained) → IsContained h c → c ≡ contained_of h
+same_contained h c is =
+    sym
+    (ap (λ d. record { declared = d; shape = shape_in h.matrix; buffers = h.buffers; entries = entries_in h.matrix }) is.declared
+    ∙ ap (λ s. record { declared = c.declared; shape = s; buffers = h.buffers; entries = entries_in h.matrix }) is.shape
+    ∙ ap (λ b. record { declared = c.declared; shape = c.shape; buffers = b; entries = entries_in h.matrix }) is.buffers
+    ∙ ap (λ e. record { declared = c.declared; shape = c.shape; buffers = c.buffers; entries = e }) is.entries)
+
+pub container_read : (slot : Slot) (bytes : List ℕ) (b : Bool) (h : Held) → b ≡ bytes_eq magic (take 7 bytes) → b ≡ true → TellsContained (contained_in bytes) (Ok h) → read_input slot bytes ≡ Ok (OfContainer (contained_of h))
+container_read slot bytes b h e f t =
+    by_magic slot bytes b e ∙ ap (λ t. cond t (container_step (contained_in bytes)) (matrix_step slot (matrix_in bytes))) f ∙ ap container_step t.1
+    ∙ ap (λ c. Ok (OfContainer c)) (same_contained h t.0 t.2)
+
+refused_container : (fault : ContainerFault) (read : Result Contained ContainerFault) → TellsContained read (Err fault) → IsStep {A = Input} (container_step read) (Err (container_refusal_of fault))
+refused_container container.Memory read h = tt
+refused_container fault read h = ap container_step h
+
+pub container_refused : (slot : Slot) (bytes : List ℕ) (b : Bool) (fault : ContainerFault) (status : Status) → b ≡ bytes_eq magic (take 7 bytes) → b ≡ true → status ≡ container_refusal_of fault
+    → TellsContained (contained_in bytes) (Err fault) → IsStep {A = Input} (read_input slot bytes) (Err status)
+container_refused slot bytes b fault status e f s h =
+    let At : Result Input Status → Status → Type 0 = λ r t. IsStep {A = Input} r (Err t) in
+    let read = by_magic slot bytes b e ∙ ap (λ t. cond t (container_step (contained_in bytes)) (matrix_step slot (matrix_in bytes))) f in
+    subst (λ r. At r status) (sym read) (subst (At (container_step (contained_in bytes))) (sym s) (refused_container fault (contained_in bytes) h))
+
+pub inner_matrix : (slot : Slot) (fault : MmFault) (status : Status) → status ≡ refusal_of slot fault → IsInnerRefusal status
+inner_matrix slot mm.Memory status e = subst IsInnerRefusal (sym e) tt
+inner_matrix slot fault status e = subst IsInnerRefusal (sym e) tt
+
+pub inner_container : (fault : ContainerFault) (status : Status) → status ≡ container_refusal_of fault → IsInnerRefusal status
+inner_container container.Memory status e = subst IsInnerRefusal (sym e) tt
+inner_container fault status e = subst IsInnerRefusal (sym e) tt
+
+pub inner_formats : (fault : DeclFault) (status : Status) → status ≡ formats_refusal_of fault → IsInnerRefusal status
+inner_formats decl.Memory status e = subst IsInnerRefusal (sym e) tt
+inner_formats fault status e = subst IsInnerRefusal (sym e) tt
+
+same_triples : (ts : List Triple) → map triple_of (map plain_entry ts) ≡ ts
+same_triples [] = refl
+same_triples (t ∷ ts) = ap (λ l. t ∷ l) (same_triples ts)
+
+-- the matrix of a container is the held one
+pub held_matrix : (h : Held) → map_of (OfContainer (contained_of h)) ≡ h.matrix
+held_matrix h = ap (λ l. record h.matrix { entries = l }) (same_triples h.matrix.entries)
 
 -- ---- libraries
 
@@ -71,23 +172,21 @@ library_fault bytes (decl.Form place) p = ap (told (length bytes)) (p.reads ∙ 
 library_fault bytes (decl.TooBig place) p = ap (told (length bytes)) (p.reads ∙ p.tells.1) ∙ ap (λ n. Err (decl.TooBig n)) (place_is (length bytes) p.tells.0 place p.tells.2)
 library_fault bytes (decl.Repeated place) p = ap (told (length bytes)) (p.reads ∙ p.tells.1) ∙ ap (λ n. Err (decl.Repeated n)) (place_is (length bytes) p.tells.0 place p.tells.2)
 
-pub library_read : (slot : Slot) (bytes : List ℕ) (library : Library) → length bytes ≤ 1073741824 → ParsesLibrary bytes (Ok library) → library_at slot bytes ≡ Ok (map decl_view library)
-library_read slot bytes library le p = short slot bytes (library_step slot (library_in bytes)) le ∙ ap (library_step slot) (library_is bytes library p)
+pub library_read : (bytes : List ℕ) (library : Library) → ParsesLibrary bytes (Ok library) → library_step (library_in bytes) ≡ Ok (map decl_view library)
+library_read bytes library p = ap library_step (library_is bytes library p)
 
-library_refused : (slot : Slot) (fault : DeclFault) (bytes : List ℕ) → length bytes ≤ 1073741824 → IsFormatsFault fault (library_in bytes)
-    → IsStep {A = List Declared} (library_at slot bytes) (Err (formats_refusal_of fault))
-library_refused slot decl.Memory bytes le h = tt
-library_refused slot fault bytes le h = short slot bytes (library_step slot (library_in bytes)) le ∙ ap (library_step slot) h
+library_refused : (fault : DeclFault) (bytes : List ℕ) → IsFormatsFault fault (library_in bytes) → IsStep {A = List Declared} (library_step (library_in bytes)) (Err (formats_refusal_of fault))
+library_refused decl.Memory bytes h = tt
+library_refused fault bytes h = ap library_step h
 
-pub library_refused_at : (slot : Slot) (fault : DeclFault) (bytes content : List ℕ) (status : Status) → bytes ≡ content → status ≡ formats_refusal_of fault → length bytes ≤ 1073741824 → ParsesLibrary bytes (Err fault)
-    → IsStep {A = List Declared} (library_at slot content) (Err status)
-library_refused_at slot fault bytes content status e s le p =
-    let At : List ℕ → Status → Type 0 = λ b t. IsStep {A = List Declared} (library_at slot b) (Err t) in
-    subst (λ b. At b status) e (subst (At bytes) (sym s) (library_refused slot fault bytes le (library_fault bytes fault p)))
+pub library_refused_at : (fault : DeclFault) (bytes : List ℕ) (status : Status) → status ≡ formats_refusal_of fault → ParsesLibrary bytes (Err fault)
+    → IsStep {A = List Declared} (library_step (library_in bytes)) (Err status)
+library_refused_at fault bytes status s p =
+    subst (λ t. IsStep {A = List Declared} (library_step (library_in bytes)) (Err t)) (sym s) (library_refused fault bytes (library_fault bytes fault p))
 
 -- ---- what was read is valid
 
-and_left : (a b : Bool) → (a && b) ≡ true → a ≡ true
+pub and_left : (a b : Bool) → (a && b) ≡ true → a ≡ true
 and_left true b h = refl
 and_left false b h = h
 

@@ -1,3 +1,9 @@
+pub mod AnswerLemmas
+pub mod ChainLemmas
 pub mod CommandLemmas
+pub mod ConversionLemmas
+pub mod ConvertLemmas
+pub mod FindingLemmas
+pub mod InfoLemmas
 pub mod InputLemmas
 pub mod ReportLemmas

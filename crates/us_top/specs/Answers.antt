@@ -4,20 +4,26 @@ use Rattle.us_mm.specs.declared.fault.MmFault.{MmFault}
 use Rattle.us_mm.specs.declared.fault.MmFault.TheVariants as mm
 use Rattle.us_decl.specs.declared.parsed.DeclFault.{DeclFault}
 use Rattle.us_decl.specs.declared.parsed.DeclFault.TheVariants as decl
+use Rattle.us_container.specs.declared.fault.ContainerFault.{ContainerFault}
+use Rattle.us_container.specs.declared.fault.ContainerFault.TheVariants as container
 use Rattle.us_outside.specs.Causes.{Faults, Rose}
 use Rattle.us_outside.specs.declared.outside.Call.TheVariants.{Fetch}
 use Rattle.us_top.specs.declared.status.Slot.{Slot}
 use Rattle.us_top.specs.declared.status.Status.{Status}
-use Rattle.us_top.specs.declared.status.Status.TheVariants.{Done, Matrix, TooLong, ReadFault, WriteFault, Memory, Formats}
+use Rattle.us_top.specs.declared.status.Status.TheVariants.{Done, Words, Matrix, ReadFault, WriteFault, Memory, Formats, Container}
 use Rattle.us_top.specs.Commands.{Use}
 
--- An answer is the plain one, or want of memory, or a fault of the outside. Of these, a failed write comes only where the
--- plain answer is `Done`, since all stores come last.
-abbrev pub IsAnswer : Status → Status → Type 0
-IsAnswer plain Memory = Unit {0}
-IsAnswer plain (ReadFault slot) = Unit {0}
-IsAnswer plain (WriteFault slot) = plain ≡ Done
-IsAnswer plain answer = answer ≡ plain
+abbrev pub IsOneOf : Slot → List Slot → Type 0
+IsOneOf slot [] = ⊥
+IsOneOf slot (s ∷ more) = (s ≡ slot) ⊎ IsOneOf slot more
+
+-- An answer is the plain one, or want of memory, or a fault of the outside. Of these, a failed read comes only of a file that is reached, before which
+-- all steps pass, and a failed write only where the plain answer is `Done`, since all stores come last.
+abbrev pub IsAnswer : List Slot → Status → Status → Type 0
+IsAnswer reached plain Memory = Unit {0}
+IsAnswer reached plain (ReadFault slot) = IsOneOf slot reached
+IsAnswer reached plain (WriteFault slot) = plain ≡ Done
+IsAnswer reached plain answer = answer ≡ plain
 
 abbrev pub IsPlainOrMemory : Status → Status → Type 0
 IsPlainOrMemory plain answer = (answer ≡ plain) ⊎ (answer ≡ Memory)
@@ -55,6 +61,11 @@ IsStep plain (Err Memory) = Unit {0}
 IsStep plain (Err (ReadFault slot)) = Unit {0}
 IsStep plain (Err status) = plain ≡ Err status
 
+-- the answer that steps come to
+abbrev pub status_of : {A : Type 0} → Result A Status → Status
+status_of (Ok x) = Done
+status_of (Err status) = status
+
 -- the answer to a fault of the reader of matrix files
 abbrev pub refusal_of : Slot → MmFault → Status
 refusal_of slot mm.Memory = Memory
@@ -65,11 +76,23 @@ abbrev pub formats_refusal_of : DeclFault → Status
 formats_refusal_of decl.Memory = Memory
 formats_refusal_of fault = Formats fault
 
--- the answers to a file that isn't read
-abbrev pub IsReadRefusal : Slot → List ℕ → Faults → Faults → Status → Type 0
-IsReadRefusal slot name before now (Matrix s fault) = s ≡ slot
-IsReadRefusal slot name before now (Formats fault) = Unit {0}
-IsReadRefusal slot name before now (TooLong s) = s ≡ slot
-IsReadRefusal slot name before now (ReadFault s) = (s ≡ slot) × Rose (before Fetch name) (now Fetch name)
-IsReadRefusal slot name before now Memory = Unit {0}
-IsReadRefusal slot name before now _ = ⊥
+-- the answer to a fault of the reader of containers
+abbrev pub container_refusal_of : ContainerFault → Status
+container_refusal_of container.Memory = Memory
+container_refusal_of fault = Container fault
+
+-- the answers with which a step may end a command: it stores and prints nothing, and a read fault comes only where a fetch of that slot failed
+abbrev pub IsRefusal : List Use → Faults → Faults → Status → Type 0
+IsRefusal uses before now Done = ⊥
+IsRefusal uses before now Words = ⊥
+IsRefusal uses before now (WriteFault slot) = ⊥
+IsRefusal uses before now (ReadFault slot) = SomeUse (λ u. (u.slot ≡ slot) × (u.call ≡ Fetch) × RoseAt before now u) uses
+IsRefusal uses before now _ = Unit {0}
+
+-- the answers of a step that makes no call of the outside
+abbrev pub IsInnerRefusal : Status → Type 0
+IsInnerRefusal Done = ⊥
+IsInnerRefusal Words = ⊥
+IsInnerRefusal (WriteFault slot) = ⊥
+IsInnerRefusal (ReadFault slot) = ⊥
+IsInnerRefusal _ = Unit {0}

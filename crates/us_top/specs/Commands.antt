@@ -1,5 +1,6 @@
 -- The commands, the words that say them, and the calls of the outside that they may make.
-use Rattle.std.specs.Prelude.{ℕ, List, [], ◌∷◌, length, nat_le, ◌&&◌, map, Option, Some, None, string_bytes, codes, if◌then◌else◌, Bool, true, false}
+use Rattle.std.specs.Prelude.{ℕ, List, [], ◌∷◌, length, nat_le, not, ◌==◌, ◌&&◌, map, Option, Some, None, string_bytes, codes, if◌then◌else◌, Bool, true, false}
+use Rattle.std.specs.List.{slice_split, filter, list_all, list_any}
 use Rattle.std.specs.declared.string.String.{String}
 use Rattle.std.specs.declared.alloc.Global.{Global}
 use Rattle.std.specs.Str.{bytes_eq}
@@ -16,6 +17,8 @@ use Rattle.us_top.specs.declared.status.Slot.TheVariants.{Formats, Input, Output
 pub data Command : Type 0 where
   Canon : List ℕ → List ℕ → Command  -- the names of the input and of the output
   Check : List ℕ → Shape → Command  -- the name of the library, and a shape
+  Convert : List ℕ → List ℕ → List ℕ → List ℕ → Command  -- the names of the library and of the input, the chain of formats, and the name of the output
+  Info : List ℕ → Command  -- the name of the input
 
 abbrev pub texts : List (String Global) → List (List ℕ)
 texts words = map (λ w. string_bytes w) words
@@ -29,10 +32,46 @@ check_of formats None cols = None
 check_of formats (Some rows) None = None
 check_of formats (Some rows) (Some cols) = Some (Check formats (record { rows = rows; cols = cols }))
 
+-- ---- chains of formats
+
+-- the names between the commas
+abbrev pub names_of : List ℕ → List (List ℕ)
+names_of chain = slice_split (λ b. b == 44) chain
+
+-- the word that stands for the canonical text of a matrix
+abbrev pub is_text : List ℕ → Bool
+is_text name = bytes_eq name (codes "mtx")
+
+-- all but the last
+abbrev pub front : List (List ℕ) → List (List ℕ)
+front [] = []
+front (x ∷ []) = []
+front (x ∷ y ∷ xs) = x ∷ front (y ∷ xs)
+
+-- 1 to 64 names, none empty, and `mtx` only as the last
+unfoldable pub is_chain : List ℕ → Bool
+is_chain chain = nat_le (length (names_of chain)) 64 && (list_all (λ w. not (length w == 0)) (names_of chain) && not (list_any is_text (front (names_of chain))))
+
+-- the formats of a chain: its names but for `mtx`
+abbrev pub hops_of : List ℕ → List (List ℕ)
+hops_of chain = filter (λ w. not (is_text w)) (names_of chain)
+
+-- whether a chain ends in the canonical text
+abbrev pub ends_in_text : List ℕ → Bool
+ends_in_text chain = list_any is_text (names_of chain)
+
+-- a listing is not written yet: its word is `-`
+abbrev pub convert_of : List ℕ → List ℕ → List ℕ → List ℕ → List ℕ → Option Command
+convert_of formats input chain output listing = if is_chain chain && bytes_eq listing (codes "-") then Some (Convert formats input chain output) else None
+
+-- ----
+
 -- the command that the words say, none where they say none
 unfoldable pub command_of : List (List ℕ) → Option Command
+command_of (command ∷ input ∷ []) = if bytes_eq command (codes "info") then Some (Info input) else None
 command_of (command ∷ input ∷ output ∷ []) = if bytes_eq command (codes "canon") then Some (Canon input output) else None
 command_of (command ∷ formats ∷ rows ∷ cols ∷ []) = if bytes_eq command (codes "check") then check_of formats (side_of rows) (side_of cols) else None
+command_of (command ∷ formats ∷ input ∷ chain ∷ output ∷ listing ∷ []) = if bytes_eq command (codes "convert") then convert_of formats input chain output listing else None
 command_of _ = None
 
 -- a kind of call, with the file that it is made on and that file's place in the command
@@ -41,10 +80,21 @@ pub record Use : Type 0 where
   pub call : Call
   pub name : List ℕ
 
+abbrev pub reads : Slot → List ℕ → Use
+reads slot name = record { slot = slot; call = Fetch; name = name }
+
+abbrev pub stores : Slot → List ℕ → Use
+stores slot name = record { slot = slot; call = Store; name = name }
+
+abbrev pub print_use : Use
+print_use = record { slot = Print; call = outside.Print; name = [] }
+
 -- the calls that a command may make
 abbrev pub uses : Command → List Use
-uses (Check formats shape) = record { slot = Formats; call = Fetch; name = formats } ∷ record { slot = Print; call = outside.Print; name = [] } ∷ []
-uses (Canon input output) = record { slot = Input; call = Fetch; name = input } ∷ record { slot = Output; call = Store; name = output } ∷ []
+uses (Check formats shape) = reads Formats formats ∷ print_use ∷ []
+uses (Canon input output) = reads Input input ∷ stores Output output ∷ []
+uses (Convert formats input chain output) = reads Formats formats ∷ reads Input input ∷ stores Output output ∷ print_use ∷ []
+uses (Info input) = reads Input input ∷ print_use ∷ []
 
 abbrev pub uses_of : Option Command → List Use
 uses_of None = []
@@ -52,5 +102,6 @@ uses_of (Some command) = uses command
 
 -- whether a command prints
 abbrev pub prints : Option Command → Bool
-prints (Some (Check formats shape)) = true
-prints _ = false
+prints None = false
+prints (Some (Canon input output)) = false
+prints (Some _) = true

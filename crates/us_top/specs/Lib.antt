@@ -1,8 +1,12 @@
 pub mod Commands
 pub mod Library
 pub mod Report
+pub mod Steps
+pub mod Converting
+pub mod Info
 pub mod Outcome
 pub mod Answers
 pub mod Stands
 pub mod Lines
 pub mod Views
+pub mod Headline

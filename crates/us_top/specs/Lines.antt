@@ -1,10 +1,13 @@
 -- The number and the line of each answer.
 use Rattle.std.specs.Prelude.{ℕ, List, ◌++◌, codes}
-use Rattle.std.specs.Fmt.{decimal}
+use Rattle.std.specs.Fmt.{decimal, signed_decimal}
 use Rattle.us_mm.specs.declared.fault.MmFault.{MmFault}
 use Rattle.us_mm.specs.declared.fault.MmFault.TheVariants as mm
 use Rattle.us_decl.specs.declared.parsed.DeclFault.{DeclFault}
 use Rattle.us_decl.specs.declared.parsed.DeclFault.TheVariants as decl
+use Rattle.us_judge.specs.declared.refusal.Refusal.{Refusal}
+use Rattle.us_container.specs.declared.fault.ContainerFault.{ContainerFault}
+use Rattle.us_container.specs.declared.fault.ContainerFault.TheVariants as container
 use Rattle.us_top.specs.declared.status.Status.TheVariants as status
 use Rattle.us_top.specs.declared.status.Slot.{Slot}
 use Rattle.us_top.specs.declared.status.Slot.TheVariants.{Formats, Input, Operand, Code, Output, Listing, Print}
@@ -44,12 +47,36 @@ formats_text (decl.TooBig place) = codes "too big " ++ decimal place
 formats_text (decl.Repeated place) = codes "repeated " ++ decimal place
 formats_text decl.Memory = codes "memory"
 
+-- the rule, the part and the item
+abbrev pub refusal_text : Refusal → List ℕ
+refusal_text r = codes "J" ++ decimal r.rule ++ codes " part " ++ decimal r.part ++ codes " place " ++ decimal r.place
+
+-- what is said of a fault of a container
+abbrev pub container_text : ContainerFault → List ℕ
+container_text container.Magic = codes "magic"
+container_text (container.Version n) = codes "version " ++ decimal n
+container_text (container.Truncated at) = codes "truncated " ++ decimal at
+container_text (container.DeclText at) = codes "text " ++ decimal at
+container_text (container.Refused r) = codes "refused " ++ refusal_text r
+container_text container.Shape = codes "shape"
+container_text (container.Lengths b) = codes "lengths " ++ decimal b
+container_text (container.Trailing at) = codes "trailing " ++ decimal at
+container_text container.TooLarge = codes "too large"
+container_text (container.Climb p x) = codes "climb " ++ decimal p ++ codes " " ++ decimal x
+container_text (container.Cell b x have want) = codes "cell " ++ decimal b ++ codes " " ++ decimal x ++ codes " " ++ signed_decimal have ++ codes " " ++ signed_decimal want
+container_text (container.Long b have want) = codes "long " ++ decimal b ++ codes " " ++ decimal have ++ codes " " ++ decimal want
+container_text container.Memory = codes "memory"
+
 -- the line that tells an answer, without its line feed
 abbrev pub status_line : Status → List ℕ
 status_line Done = codes "ok"
 status_line Words = codes "words"
 status_line (Matrix slot fault) = codes "matrix " ++ slot_word slot ++ codes " " ++ fault_text fault
 status_line (status.Formats fault) = codes "formats " ++ formats_text fault
+status_line (status.UnknownName k) = codes "unknown name " ++ decimal k
+status_line (status.Refused k r) = codes "refused name " ++ decimal k ++ codes " " ++ refusal_text r
+status_line (status.Container fault) = codes "container " ++ container_text fault
+status_line (status.TooLarge hop) = codes "too large " ++ decimal hop
 status_line (ReadFault slot) = codes "read fault " ++ slot_word slot
 status_line (WriteFault slot) = codes "write fault " ++ slot_word slot
 status_line (TooLong slot) = codes "too long " ++ slot_word slot
@@ -61,6 +88,10 @@ code_of Done = 0
 code_of Words = 1
 code_of (Matrix slot fault) = 2
 code_of (status.Formats fault) = 3
+code_of (status.UnknownName k) = 4
+code_of (status.Refused k r) = 5
+code_of (status.Container fault) = 6
+code_of (status.TooLarge hop) = 7
 code_of (ReadFault slot) = 12
 code_of (WriteFault slot) = 13
 code_of (TooLong slot) = 14

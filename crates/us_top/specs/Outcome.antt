@@ -1,22 +1,18 @@
 -- What a command comes to where no call of the outside fails and there is memory enough: its answer, the files that it
 -- stores, and what it prints. The steps go in order, and the first that fails decides.
-use Rattle.std.specs.Prelude.{ℕ, List, [], ◌∷◌, length, nat_lt, Option, Some, None, Result, Ok, Err, if◌then◌else◌}
-use Rattle.us_matrix.specs.Map.{Map}
-use Rattle.us_mm.specs.declared.fault.MmFault.{MmFault}
-use Rattle.us_mm.specs.Reads.{matrix_in}
+use Rattle.std.specs.Prelude.{ℕ, List, [], ◌∷◌, Option, Some, None, Result, Ok, Err}
 use Rattle.us_mm.specs.Text.{text}
 use Rattle.us_outside.specs.Files.{Files, content_of}
 use Rattle.us_top.specs.declared.status.Slot.{Slot}
-use Rattle.us_top.specs.declared.status.Slot.TheVariants.{Input, Output}
-use Rattle.us_top.specs.declared.status.Slot.TheVariants as slots
+use Rattle.us_top.specs.declared.status.Slot.TheVariants.{Formats, Input, Output}
 use Rattle.us_top.specs.declared.status.Status.{Status}
-use Rattle.us_top.specs.declared.status.Status.TheVariants.{Done, Words, Matrix, Formats, TooLong}
+use Rattle.us_top.specs.declared.status.Status.TheVariants.{Done, Words}
 use Rattle.us_format.specs.Matrix.{Shape}
-use Rattle.us_decl.specs.Declares.{Declared}
-use Rattle.us_decl.specs.declared.parsed.DeclFault.{DeclFault}
-use Rattle.us_top.specs.Commands.{Command, Canon, Check}
-use Rattle.us_top.specs.Library.{library_in}
+use Rattle.us_top.specs.Commands.{Command, Canon, Check, Convert, Info}
+use Rattle.us_top.specs.Steps.{library_at, input_at, map_of, chain_in, within_limit}
+use Rattle.us_top.specs.Converting.{written, hop_lines}
 use Rattle.us_top.specs.Report.{report}
+use Rattle.us_top.specs.Info.{info_text}
 
 -- a file that is to be stored
 pub record Store : Type 0 where
@@ -34,46 +30,64 @@ pub record Outcome : Type 0 where
 abbrev pub refused : Status → Outcome
 refused status = record { status = status; stores = []; prints = None }
 
+-- all was done
+abbrev pub done : List Store → Option (List ℕ) → Outcome
+done stores prints = record { status = Done; stores = stores; prints = prints }
+
+-- the output
+abbrev pub output_of : List ℕ → List ℕ → Store
+output_of name bytes = record { slot = Output; name = name; bytes = bytes }
+
 -- a step that gives a value or ends the command, and what comes behind it
 abbrev pub and_then : {A : Type 0} → Result A Status → (A → Outcome) → Outcome
 and_then (Ok x) next = next x
 and_then (Err status) next = refused status
 
-abbrev pub matrix_step : Slot → Result Map MmFault → Result Map Status
-matrix_step slot (Ok m) = Ok m
-matrix_step slot (Err fault) = Err (Matrix slot fault)
-
--- what reading a file gives, unless it is too long
-unfoldable pub of_file : {A : Type 0} → Slot → List ℕ → Result A Status → Result A Status
-of_file slot bytes read = if nat_lt 1073741824 (length bytes) then Err (TooLong slot) else read
-
--- reading the matrix of a file
-abbrev pub matrix_at : Slot → List ℕ → Result Map Status
-matrix_at slot bytes = of_file slot bytes (matrix_step slot (matrix_in bytes))
-
 -- `canon`: the canonical text of the input's matrix is stored
 abbrev pub canon : List ℕ → List ℕ → Files → Outcome
-canon input output fs =
-    and_then (matrix_at Input (content_of fs input)) (λ m. record { status = Done; stores = record { slot = Output; name = output; bytes = text m } ∷ []; prints = None })
-
-abbrev pub library_step : Slot → Result (List Declared) DeclFault → Result (List Declared) Status
-library_step slot (Ok ds) = Ok ds
-library_step slot (Err fault) = Err (Formats fault)
-
--- reading the library of a file
-abbrev pub library_at : Slot → List ℕ → Result (List Declared) Status
-library_at slot bytes = of_file slot bytes (library_step slot (library_in bytes))
+canon input output fs = and_then (input_at Input (content_of fs input)) (λ i. done (output_of output (text (map_of i)) ∷ []) None)
 
 -- `check`: a line for each declaration of the library is printed
 abbrev pub check : List ℕ → Shape → Files → Outcome
-check formats shape fs =
-    and_then (library_at slots.Formats (content_of fs formats)) (λ ds. record { status = Done; stores = []; prints = Some (report shape ds) })
+check formats shape fs = and_then (library_at Formats (content_of fs formats)) (λ ds. done [] (Some (report shape ds)))
+
+-- `convert`: the formats of the chain are found and judged, the input is read, each hop has to be within the limit; then the container in the last format
+-- is stored, or the canonical text, and a line for each hop is printed
+abbrev pub convert : List ℕ → List ℕ → List ℕ → List ℕ → Files → Outcome
+convert formats input chain output fs =
+    and_then (chain_in (content_of fs formats) chain) (λ ds.
+    and_then (input_at Input (content_of fs input)) (λ i.
+    and_then (within_limit (map_of i) 1 ds) (λ _. done (output_of output (written chain ds (map_of i)) ∷ []) (Some (hop_lines (map_of i) ds)))))
+
+-- `info`: what the input is, is printed
+abbrev pub info : List ℕ → Files → Outcome
+info input fs = and_then (input_at Input (content_of fs input)) (λ i. done [] (Some (info_text i)))
 
 abbrev pub outcome : Command → Files → Outcome
 outcome (Check formats shape) fs = check formats shape fs
 outcome (Canon input output) fs = canon input output fs
+outcome (Convert formats input chain output) fs = convert formats input chain output fs
+outcome (Info input) fs = info input fs
 
 -- what any words come to
 abbrev pub plain : Option Command → Files → Outcome
 plain None fs = refused Words
 plain (Some command) fs = outcome command fs
+
+-- ---- what is read
+
+-- the slot, if the step before passes
+abbrev pub behind : {A : Type 0} → Result A Status → Slot → List Slot
+behind (Ok x) slot = slot ∷ []
+behind (Err status) slot = []
+
+-- the files that a command comes to read, with these files: those before which all steps pass
+abbrev pub reached : Command → Files → List Slot
+reached (Check formats shape) fs = Formats ∷ []
+reached (Canon input output) fs = Input ∷ []
+reached (Convert formats input chain output) fs = Formats ∷ behind (chain_in (content_of fs formats) chain) Input
+reached (Info input) fs = Input ∷ []
+
+abbrev pub reached_by : Option Command → Files → List Slot
+reached_by None fs = []
+reached_by (Some command) fs = reached command fs

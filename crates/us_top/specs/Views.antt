@@ -1,14 +1,27 @@
--- A command of the code as the command that it stands for.
-use Rattle.std.specs.Prelude.{◌<◌, ◌^◌, List, map, Result, Ok, Err}
+-- Values of the program as what they stand for.
+use Rattle.std.specs.Prelude.{◌≡◌, true, ℕ, ◌<◌, ◌^◌, List, map, Result, Ok, Err}
+use Rattle.std.specs.declared.alloc.Global.{Global}
+use Rattle.std.specs.declared.vec.Vec.{Vec}
+use denote.Ref.{Bor}
+use Rattle.us_decl.specs.declared.decl.Decl.{Decl}
 use Rattle.us_decl.specs.declared.library.Library.{Library}
 use Rattle.us_decl.specs.Declares.{Declared}
 use Rattle.us_decl.specs.Views.{decl_view}
 use Rattle.us_top.specs.declared.status.Status.{Status}
 use Rattle.us_format.specs.Matrix.{Shape}
 use Rattle.us_matrix.specs.declared.shape.Shape as code
+use Rattle.us_format.specs.Program.{shape_in, entries_in}
+use Rattle.us_check.specs.declared.held.Held.{Held}
+use Rattle.us_container.specs.Contained.{Contained}
 use Rattle.us_top.specs.Commands as commands
+use Rattle.us_top.specs.Commands.{is_chain}
+use Rattle.us_top.specs.Steps.{Input, OfFile, OfContainer}
+use Rattle.us_top.specs.Converting.{Made}
+use Rattle.us_top.specs.declared.conversion.Made as conversion
+use Rattle.us_top.specs.declared.input.Input as inputs
+use Rattle.us_top.specs.declared.input.Input.TheVariants.{File, Container}
 use Rattle.us_top.specs.declared.command.Command.{Command}
-use Rattle.us_top.specs.declared.command.Command.TheVariants.{Canon, Check}
+use Rattle.us_top.specs.declared.command.Command.TheVariants.{Canon, Check, Convert, Info}
 
 abbrev pub shape_view : code.Shape → Shape
 shape_view s = record { rows = s.rows; cols = s.cols }
@@ -16,13 +29,53 @@ shape_view s = record { rows = s.rows; cols = s.cols }
 abbrev pub command_view : Command → commands.Command
 command_view (Canon input output) = commands.Canon input.now output.now
 command_view (Check formats shape) = commands.Check formats.now (shape_view shape)
+command_view (Convert formats input chain output) = commands.Convert formats.now input.now chain.now output.now
+command_view (Info input) = commands.Info input.now
 
--- rows and columns of a command are below 2^31
-abbrev pub HasSides : Command → Type 0
-HasSides (Canon input output) = Unit {0}
-HasSides (Check formats shape) = (shape.rows < 2 ^ 31) × (shape.cols < 2 ^ 31)
+-- rows and columns of a command are below 2^31, and a chain is one
+abbrev pub IsProper : Command → Type 0
+IsProper (Canon input output) = Unit {0}
+IsProper (Check formats shape) = (shape.rows < 2 ^ 31) × (shape.cols < 2 ^ 31)
+IsProper (Convert formats input chain output) = is_chain chain.now ≡ true
+IsProper (Info input) = Unit {0}
 
 -- the declarations of a library that was read
 abbrev pub declarations_of : Result Library Status → Result (List Declared) Status
 declarations_of (Ok library) = Ok (map decl_view library)
 declarations_of (Err status) = Err status
+
+-- the bytes of a file that was loaded
+abbrev pub bytes_of : Result (Vec ℕ Global) Status → Result (List ℕ) Status
+bytes_of (Ok bytes) = Ok bytes.items
+bytes_of (Err status) = Err status
+
+-- a held matrix as what its container holds
+abbrev pub contained_of : Held → Contained
+contained_of h = record { declared = h.declared; shape = shape_in h.matrix; buffers = h.buffers; entries = entries_in h.matrix }
+
+abbrev pub input_view : inputs.Input → Input
+input_view (File m) = OfFile m
+input_view (Container h) = OfContainer (contained_of h)
+
+-- the input that was read
+abbrev pub input_of : Result inputs.Input Status → Result Input Status
+input_of (Ok input) = Ok (input_view input)
+input_of (Err status) = Err status
+
+-- the declarations that were found
+abbrev pub found_of : Result (Vec (Bor Decl) Global) Status → Result (List Declared) Status
+found_of (Ok found) = Ok (map (λ d. decl_view d.now) found.items)
+found_of (Err status) = Err status
+
+-- the formats of a chain
+abbrev pub formats_of : Result (Vec Declared Global) Status → Result (List Declared) Status
+formats_of (Ok formats) = Ok formats.items
+formats_of (Err status) = Err status
+
+-- what a conversion made
+abbrev pub made_view : conversion.Made → Made
+made_view m = record { bytes = m.bytes.items; lines = m.lines.items }
+
+abbrev pub made_of : Result conversion.Made Status → Result Made Status
+made_of (Ok made) = Ok (made_view made)
+made_of (Err status) = Err status

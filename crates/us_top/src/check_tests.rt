@@ -1,4 +1,4 @@
-// Runs of `check` over files in memory.
+//! Runs of `check` over files in memory.
 use crate::{Slot, Status, run};
 use std::alloc::{AllocError, Global};
 use std::test::Fail;
@@ -6,8 +6,8 @@ use us_decl::parse_library;
 use us_outside::{Call, MemoryOutside, Outside};
 use us_print::print_decl;
 
-// A dozen worked formats, in canonical text.
-const LIBRARY: &str = "format csr {
+/// A dozen worked formats, in canonical text.
+pub const LIBRARY: &str = "format csr {
   map (i, j)
   trim 1
   merge 1
@@ -84,8 +84,12 @@ format heavy {
 }
 ";
 
-// The answer to the words.
-fn say<O: Outside>(alloc: Global, texts: &[&str], outside: &mut O) -> Result<Status, AllocError> {
+/// The answer to the words.
+pub fn say<O: Outside>(
+    alloc: Global,
+    texts: &[&str],
+    outside: &mut O,
+) -> Result<Status, AllocError> {
     let mut words = Vec::new(alloc);
     for text in texts {
         words.push(String::from_str(alloc, text)?)?;

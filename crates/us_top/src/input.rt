@@ -1,43 +1,68 @@
-// Files that a command reads.
-ghost use Rattle.std.specs.Prelude.{◌≡◌, All, IfErr, IfOk, IfSome};
+//! Files that a command reads.
+ghost use Rattle.std.specs.Prelude.{◌≡◌, [], ◌∷◌, All, IfErr, IfOk, IfSome};
 ghost use Rattle.us_outside.specs.Causes.{NeverFell};
 ghost use Rattle.us_outside.specs.Files.{content_of};
-ghost use Rattle.us_top.specs.Outcome.{matrix_at, library_at};
-ghost use Rattle.us_top.specs.Answers.{IsStep, IsReadRefusal, refusal_of, formats_refusal_of};
-ghost use Rattle.us_top.specs.Views.{declarations_of};
+ghost use Rattle.us_top.specs.Commands.{reads};
+ghost use Rattle.us_top.specs.Steps.{bytes_at, library_at, library_step, map_of, read_input, input_at};
+ghost use Rattle.us_top.specs.Library.{library_in};
+ghost use Rattle.us_top.specs.Answers.{IsStep, IsRefusal, IsInnerRefusal, refusal_of, formats_refusal_of, container_refusal_of};
+ghost use Rattle.us_top.specs.Views.{bytes_of, declarations_of, input_of, input_view};
 ghost use Rattle.us_decl.specs.Declares.{IsValid};
 ghost use Rattle.us_decl.specs.Views.{decl_view};
 
 use crate::{Slot, Status};
 use std::alloc::Global;
+use us_check::Held;
+use us_container::{ContainerFault, read_container};
 use us_decl::{DeclFault, Library, parse_library};
 use us_matrix::Matrix;
 use us_mm::{MmFault, read_coordinate};
 use us_outside::{LoadFault, Outside, load};
 
-/// The matrix of the file of a slot, or the answer where it isn't read.
-pub fn read_matrix<O: Outside>(
+/// What a matrix is read from: a matrix file or a container.
+#[derive(Drop)]
+pub enum Input {
+    File(Matrix),
+    Container(Held),
+}
+
+impl Input {
+    /// The matrix.
+    pub fn matrix(&self) -> &Matrix
+        ensures { result.now ≡ map_of (input_view self.now) }
+    {
+        match self {
+            Input::File(matrix) => matrix,
+            Input::Container(held) => held.matrix(),
+        }
+    }
+
+    /// The matrix alone.
+    pub fn into_matrix(self) -> Matrix
+        ensures { result ≡ map_of (input_view self) }
+    {
+        match self {
+            Input::File(matrix) => matrix,
+            Input::Container(held) => held.into_matrix(),
+        }
+    }
+}
+
+/// The input in the file of a slot, or the answer where it isn't read.
+pub fn read_input<O: Outside>(
     alloc: Global,
     outside: &mut O,
     slot: Slot,
     name: &str,
-) -> Result<Matrix, Status>
-    ensures plain { IfSome (O.files outside.old) (λ fs. IsStep (matrix_at slot (content_of fs name.now)) result) }
-    ensures refusal { IfErr result (IsReadRefusal slot name.now (O.faults outside.old) (O.faults outside.new)) }
+) -> Result<Input, Status>
+    ensures plain { IfSome (O.files outside.old) (λ fs. IsStep (input_at slot (content_of fs name.now)) (input_of result)) }
+    ensures refusal { IfErr result (IsRefusal (reads slot name.now ∷ []) (O.faults outside.old) (O.faults outside.new)) }
     ensures files { O.files outside.new ≡ O.files outside.old }
     ensures printed { O.printed outside.new ≡ O.printed outside.old }
     ensures later { NeverFell (O.faults outside.old) (O.faults outside.new) }
 {
-    let bytes = match load(alloc, outside, name) {
-        Ok(bytes) => bytes,
-        Err(LoadFault::Failed) => return Err(Status::ReadFault { slot }),
-        Err(LoadFault::TooLong) => return Err(Status::TooLong { slot }),
-        Err(LoadFault::Memory) => return Err(Status::Memory),
-    };
-    match read_coordinate(alloc, &bytes) {
-        Ok(matrix) => Ok(matrix),
-        Err(fault) => Err(refusal(slot, fault)),
-    }
+    let bytes = load_file(alloc, outside, slot, name)?;
+    input_in(alloc, slot, &bytes)
 }
 
 /// The library in the file of a slot, or the answer where it isn't read.
@@ -49,20 +74,73 @@ pub fn read_library<O: Outside>(
 ) -> Result<Library, Status>
     ensures plain { IfSome (O.files outside.old) (λ fs. IsStep (library_at slot (content_of fs name.now)) (declarations_of result)) }
     ensures valid { IfOk result (λ library. All (λ d. IsValid (decl_view d)) library) }
-    ensures refusal { IfErr result (IsReadRefusal slot name.now (O.faults outside.old) (O.faults outside.new)) }
+    ensures refusal { IfErr result (IsRefusal (reads slot name.now ∷ []) (O.faults outside.old) (O.faults outside.new)) }
     ensures files { O.files outside.new ≡ O.files outside.old }
     ensures printed { O.printed outside.new ≡ O.printed outside.old }
     ensures later { NeverFell (O.faults outside.old) (O.faults outside.new) }
 {
-    let bytes = match load(alloc, outside, name) {
-        Ok(bytes) => bytes,
-        Err(LoadFault::Failed) => return Err(Status::ReadFault { slot }),
-        Err(LoadFault::TooLong) => return Err(Status::TooLong { slot }),
-        Err(LoadFault::Memory) => return Err(Status::Memory),
-    };
-    match parse_library(alloc, &bytes) {
+    let bytes = load_file(alloc, outside, slot, name)?;
+    library_in(alloc, &bytes)
+}
+
+// The bytes of the file of a slot.
+fn load_file<O: Outside>(
+    alloc: Global,
+    outside: &mut O,
+    slot: Slot,
+    name: &str,
+) -> Result<Vec<u8>, Status>
+    ensures plain { IfSome (O.files outside.old) (λ fs. IsStep (bytes_at slot (content_of fs name.now)) (bytes_of result)) }
+    ensures refusal { IfErr result (IsRefusal (reads slot name.now ∷ []) (O.faults outside.old) (O.faults outside.new)) }
+    ensures files { O.files outside.new ≡ O.files outside.old }
+    ensures printed { O.printed outside.new ≡ O.printed outside.old }
+    ensures later { NeverFell (O.faults outside.old) (O.faults outside.new) }
+{
+    match load(alloc, outside, name) {
+        Ok(bytes) => Ok(bytes),
+        Err(LoadFault::Failed) => Err(Status::ReadFault { slot }),
+        Err(LoadFault::TooLong) => Err(Status::TooLong { slot }),
+        Err(LoadFault::Memory) => Err(Status::Memory),
+    }
+}
+
+// The input that the bytes are: a container begins with its seven bytes, all else is a matrix file.
+fn input_in(alloc: Global, slot: Slot, bytes: &[u8]) -> Result<Input, Status>
+    ensures plain { IsStep (read_input slot bytes.now) (input_of result) }
+    ensures refusal { IfErr result IsInnerRefusal }
+{
+    if bytes.starts_with(b"USPARSE") {
+        match read_container(alloc, bytes) {
+            Ok(held) => Ok(Input::Container(held)),
+            Err(fault) => Err(container_refusal(fault)),
+        }
+    } else {
+        match read_coordinate(alloc, bytes) {
+            Ok(matrix) => Ok(Input::File(matrix)),
+            Err(fault) => Err(refusal(slot, fault)),
+        }
+    }
+}
+
+// The library that the bytes are.
+fn library_in(alloc: Global, bytes: &[u8]) -> Result<Library, Status>
+    ensures plain { IsStep (library_step (library_in bytes.now)) (declarations_of result) }
+    ensures valid { IfOk result (λ library. All (λ d. IsValid (decl_view d)) library) }
+    ensures refusal { IfErr result IsInnerRefusal }
+{
+    match parse_library(alloc, bytes) {
         Ok(library) => Ok(library),
         Err(fault) => Err(formats_refusal(fault)),
+    }
+}
+
+// The answer to a file that isn't a matrix file.
+fn refusal(slot: Slot, fault: MmFault) -> Status
+    ensures { result ≡ refusal_of slot fault }
+{
+    match fault {
+        MmFault::Memory => Status::Memory,
+        fault => Status::Matrix { slot, fault },
     }
 }
 
@@ -76,12 +154,12 @@ fn formats_refusal(fault: DeclFault) -> Status
     }
 }
 
-// The answer to a file that isn't a matrix file.
-fn refusal(slot: Slot, fault: MmFault) -> Status
-    ensures { result ≡ refusal_of slot fault }
+// The answer to a file that isn't a container.
+fn container_refusal(fault: ContainerFault) -> Status
+    ensures { result ≡ container_refusal_of fault }
 {
     match fault {
-        MmFault::Memory => Status::Memory,
-        fault => Status::Matrix { slot, fault },
+        ContainerFault::Memory => Status::Memory,
+        fault => Status::Container(fault),
     }
 }

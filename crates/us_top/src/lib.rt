@@ -2,9 +2,17 @@
 #![tactic(auto)]
 
 mod canon;
+mod chain;
 mod check;
 mod command;
+mod conversion;
+mod convert;
+mod ending;
+mod finding;
+mod info;
+mod info_lines;
 mod input;
+mod line;
 mod report;
 mod running;
 mod status;
@@ -14,5 +22,7 @@ pub use status::{Slot, Status};
 
 #[cfg(test)]
 mod check_tests;
+#[cfg(test)]
+mod convert_tests;
 #[cfg(test)]
 mod tests;

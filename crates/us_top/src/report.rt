@@ -1,4 +1,4 @@
-// What `check` prints.
+//! What `check` prints.
 ghost use Rattle.std.specs.Prelude.{◌≡◌, ◌<◌, ◌^◌, ◌++◌, All, IfOk, None, OnOk, length, map};
 ghost use Rattle.us_format.specs.Kinds.{kind};
 ghost use Rattle.us_decl.specs.Declares.{IsValid};

@@ -1,23 +1,34 @@
-// The answers of the program.
-ghost use Rattle.std.specs.Prelude.{◌≡◌, ◌≤◌, ◌+◌, ◌++◌, length};
-ghost use Rattle.std.specs.Fmt.{decimal};
-ghost use Rattle.arrayvec.specs.ArrayString.{array_string_len};
-ghost use Rattle.us_top.specs.Lines.{slot_word, fault_text, formats_text, status_line, code_of};
+//! The answers of the program.
+ghost use Rattle.std.specs.Prelude.{◌≡◌};
+ghost use Rattle.us_top.specs.declared.status.Status.TheVariants.{Memory};
+ghost use Rattle.us_top.specs.Lines.{status_line, code_of};
 
+use crate::line::{
+    push_container_fault, push_fault, push_formats_fault, push_numbered, push_refusal, push_slot,
+};
 use arrayvec::ArrayString;
-use itoa::Buffer;
+use std::alloc::{AllocError, AllocFailed};
+use us_container::ContainerFault;
 use us_decl::DeclFault;
+use us_judge::Refusal;
 use us_mm::MmFault;
 
 /// The files of a command, by their places in it, and the standard output.
 #[derive(Clone, Copy, Debug, PartialEq, Eq)]
 pub enum Slot {
+    /// The library of declarations.
     Formats,
+    /// The matrix file or container that is read.
     Input,
+    /// The dense operand of a product.
     Operand,
+    /// The loop code that is read.
     Code,
+    /// The file that is stored.
     Output,
+    /// The listing of loops.
     Listing,
+    /// The standard output.
     Print,
 }
 
@@ -32,6 +43,14 @@ pub enum Status {
     Matrix { slot: Slot, fault: MmFault },
     /// The file isn't a library of declarations.
     Formats(DeclFault),
+    /// The k-th name of the chain, counted from 1, is not in the library.
+    UnknownName { k: u32 },
+    /// The declaration of the k-th name, counted from 1, is refused.
+    Refused { k: u32, why: Refusal },
+    /// The file isn't a container that can be read.
+    Container(ContainerFault),
+    /// The size of the k-th format of the chain, counted from 1, is above the limit of 67108864.
+    TooLarge { hop: u32 },
     /// A fetch of the file failed.
     ReadFault { slot: Slot },
     /// A store of the file, or the print, failed.
@@ -52,6 +71,10 @@ impl Status {
             Status::Words => 1,
             Status::Matrix { .. } => 2,
             Status::Formats(_) => 3,
+            Status::UnknownName { .. } => 4,
+            Status::Refused { .. } => 5,
+            Status::Container(_) => 6,
+            Status::TooLarge { .. } => 7,
             Status::ReadFault { .. } => 12,
             Status::WriteFault { .. } => 13,
             Status::TooLong { .. } => 14,
@@ -77,6 +100,17 @@ impl Status {
                 line.push_str("formats ");
                 push_formats_fault(&mut line, fault);
             }
+            Status::UnknownName { k } => push_numbered(&mut line, "unknown name ", u64::from(k)),
+            Status::Refused { k, why } => {
+                push_numbered(&mut line, "refused name ", u64::from(k));
+                line.push_str(" ");
+                push_refusal(&mut line, why);
+            }
+            Status::Container(fault) => {
+                line.push_str("container ");
+                push_container_fault(&mut line, fault);
+            }
+            Status::TooLarge { hop } => push_numbered(&mut line, "too large ", u64::from(hop)),
             Status::ReadFault { slot } => {
                 line.push_str("read fault ");
                 push_slot(&mut line, slot);
@@ -95,65 +129,18 @@ impl Status {
     }
 }
 
-fn push_slot(line: &mut ArrayString<160>, slot: Slot)
-    requires { array_string_len line.old ≤ 100 }
-    ensures bytes { line.new.bytes ≡ line.old.bytes ++ slot_word slot }
-    ensures len { array_string_len line.new ≤ array_string_len line.old + 8 }
-{
-    match slot {
-        Slot::Formats => line.push_str("FORMATS"),
-        Slot::Input => line.push_str("IN"),
-        Slot::Operand => line.push_str("X"),
-        Slot::Code => line.push_str("CODE"),
-        Slot::Output => line.push_str("OUT"),
-        Slot::Listing => line.push_str("LISTING"),
-        Slot::Print => line.push_str("PRINT"),
+impl From<AllocError> for Status {
+    ghost from_gives = { λ _ e. e ≡ Memory };
+
+    fn from(_: AllocError) -> Self {
+        Status::Memory
     }
 }
 
-fn push_numbered(line: &mut ArrayString<160>, text: &str, number: u64)
-    requires room { array_string_len line.old ≤ 100 }
-    requires short { length text.now ≤ 20 }
-    ensures bytes { line.new.bytes ≡ line.old.bytes ++ (text.now ++ decimal number) }
-    ensures len { array_string_len line.new ≤ array_string_len line.old + 60 }
-{
-    let mut buffer = Buffer::new();
-    line.push_str(text);
-    line.push_str(buffer.format(number));
-}
+impl<T: Drop> From<AllocFailed<T>> for Status {
+    ghost from_gives = { λ _ e. e ≡ Memory };
 
-fn push_fault(line: &mut ArrayString<160>, fault: MmFault)
-    requires { array_string_len line.old ≤ 30 }
-    ensures { line.new.bytes ≡ line.old.bytes ++ fault_text fault }
-{
-    match fault {
-        MmFault::Header => line.push_str("header"),
-        MmFault::Unsupported { word } => push_numbered(line, "unsupported word ", word),
-        MmFault::SizeLine { line: number } => push_numbered(line, "size line ", number),
-        MmFault::Shape { line: number } => push_numbered(line, "shape line ", number),
-        MmFault::TooManyEntries { count } => push_numbered(line, "too many entries ", count),
-        MmFault::EntryLine { line: number } => push_numbered(line, "entry line ", number),
-        MmFault::OutOfShape { line: number } => push_numbered(line, "out of shape line ", number),
-        MmFault::ValueRange { line: number } => push_numbered(line, "value range line ", number),
-        MmFault::Triangle { line: number } => push_numbered(line, "triangle line ", number),
-        MmFault::Missing { found, wanted } => {
-            push_numbered(line, "missing ", found);
-            push_numbered(line, " of ", wanted);
-        }
-        MmFault::Extra { line: number } => push_numbered(line, "extra line ", number),
-        MmFault::Memory => line.push_str("memory"),
-    }
-}
-
-fn push_formats_fault(line: &mut ArrayString<160>, fault: DeclFault)
-    requires { array_string_len line.old ≤ 30 }
-    ensures { line.new.bytes ≡ line.old.bytes ++ formats_text fault }
-{
-    match fault {
-        DeclFault::Token { place } => push_numbered(line, "token ", place),
-        DeclFault::Form { place } => push_numbered(line, "form ", place),
-        DeclFault::TooBig { place } => push_numbered(line, "too big ", place),
-        DeclFault::Repeated { place } => push_numbered(line, "repeated ", place),
-        DeclFault::Memory => line.push_str("memory"),
+    fn from(_: AllocFailed<T>) -> Self {
+        Status::Memory
     }
 }

@@ -1,11 +1,13 @@
-// Whole runs over files in memory.
+//! Whole runs over files in memory.
 use crate::{Slot, Status, run};
 use std::alloc::{AllocError, Global};
 use std::test::Fail;
+use us_container::ContainerFault;
+use us_judge::Refusal;
 use us_mm::MmFault;
 use us_outside::{Call, MemoryOutside, Outside, SureOutside};
 
-const SAMPLE: &str =
+pub const SAMPLE: &str =
     "%%MatrixMarket matrix coordinate integer general\n3 4 3\n1 1 5\n1 3 2\n3 2 -7\n";
 
 fn words(alloc: Global, texts: &[&str]) -> Result<Vec<String>, AllocError> {
@@ -147,6 +149,35 @@ fn each_answer_has_its_number_and_line(rt: HostRuntime) {
             2,
             "matrix X out of shape line 3",
         ),
+        (Status::UnknownName { k: 64 }, 4, "unknown name 64"),
+        (
+            Status::Refused {
+                k: 2,
+                why: Refusal {
+                    rule: 14,
+                    part: 1,
+                    place: 0,
+                },
+            },
+            5,
+            "refused name 2 J14 part 1 place 0",
+        ),
+        (
+            Status::Container(ContainerFault::Cell {
+                buffer: u64::MAX,
+                x: u64::MAX,
+                have: i64::MIN,
+                want: i64::MIN,
+            }),
+            6,
+            "container cell 18446744073709551615 18446744073709551615 -9223372036854775808 -9223372036854775808",
+        ),
+        (
+            Status::Container(ContainerFault::DeclText { at: 5 }),
+            6,
+            "container text 5",
+        ),
+        (Status::TooLarge { hop: 3 }, 7, "too large 3"),
         (Status::ReadFault { slot: Slot::Input }, 12, "read fault IN"),
         (
             Status::WriteFault { slot: Slot::Output },

@@ -1,6 +1,6 @@
 use Rattle.std.proofs.Common.{map, sym, ◌∙◌}
 use Rattle.us_format.specs.Declaration.{query_of}
-use Rattle.us_invert.specs.Table.{tree_at, trees}
+use Rattle.us_known.specs.Table.{tree_at, trees}
 use Rattle.us_invert.specs.Sources.{from_way}
 use Rattle.us_invert.proofs.FromNodes.{same-self, firsts-found, firsts-next, firsts-end}
 use Rattle.us_invert.proofs.giving.from_first.Goals as goal

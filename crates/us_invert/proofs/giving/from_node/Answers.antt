@@ -1,7 +1,7 @@
 use Rattle.std.proofs.Common.{map, sym, subst}
 use Rattle.us_format.specs.Declaration.{query_of}
 use Rattle.us_invert.specs.declared.steps.Way.{Way}
-use Rattle.us_invert.specs.Table.{tree_at, trees}
+use Rattle.us_known.specs.Table.{tree_at, trees}
 use Rattle.us_invert.specs.Sources.{from_way, IsGiven}
 use Rattle.us_invert.proofs.FromNodes.{sum-given, difference-given, quotient-given}
 use Rattle.us_invert.proofs.giving.from_node.Goals as goal

@@ -1,8 +1,8 @@
-use Rattle.std.proofs.Common.{map, refl, sym, ◌∙◌, ap}
+use Rattle.std.proofs.Common.{map, refl, sym, ap}
 use Rattle.us_format.specs.Declaration.{query_of}
-use Rattle.us_invert.specs.Table.{tree_at, trees}
+use Rattle.us_known.specs.Table.{tree_at, trees}
 use Rattle.us_expr.specs.Tree.{Tree}
-use Rattle.us_format.specs.Known.{from_reorder, order_for}
+use Rattle.us_format.specs.Known.{from_reorder}
 use Rattle.us_invert.proofs.FromNodes.{given-by, reorder-other, variable-at}
 use Rattle.us_invert.proofs.giving.from_reorder.Goals as goal
 

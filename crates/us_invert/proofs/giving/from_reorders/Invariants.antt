@@ -1,7 +1,7 @@
 use Rattle.std.proofs.Common.{map, drop}
 use Rattle.us_format.specs.Declaration.{query_of}
 use Rattle.us_format.specs.Known.{order_for}
-use Rattle.us_invert.specs.Table.{tree_at, trees}
+use Rattle.us_known.specs.Table.{tree_at, trees}
 use Rattle.us_invert.proofs.FromNodes.{IsSame}
 use Rattle.us_invert.proofs.giving.from_reorders.Given as goal
 

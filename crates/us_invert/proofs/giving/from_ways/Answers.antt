@@ -1,7 +1,6 @@
-use Rattle.std.proofs.Common.{◌≡◌, ◌<◌, length, get_or, map, sym, ◌∙◌}
+use Rattle.std.proofs.Common.{get_or, map, sym, ◌∙◌}
 use Rattle.std.proofs.lemmas.List.{get_or_default}
 use Rattle.us_format.specs.Declaration.{query_of}
-use Rattle.us_invert.specs.declared.steps.Way.{Way}
 use Rattle.us_invert.specs.declared.steps.Way.TheVariants.{Sum}
 use Rattle.us_invert.proofs.FromNodes.{same-self, ways-found, ways-next, ways-end, operands-given}
 use Rattle.us_invert.proofs.giving.from_ways.Goals as goal

@@ -1,6 +1,6 @@
 use Rattle.std.proofs.Common.{map, drop}
 use Rattle.us_format.specs.Declaration.{query_of}
-use Rattle.us_invert.specs.Table.{tree_at, trees}
+use Rattle.us_known.specs.Table.{tree_at, trees}
 use Rattle.us_invert.specs.Sources.{by_ways}
 use Rattle.us_invert.proofs.FromNodes.{IsSame}
 use Rattle.us_invert.proofs.giving.from_ways.Given as goal

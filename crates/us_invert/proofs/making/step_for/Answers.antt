@@ -1,7 +1,7 @@
-use Rattle.std.proofs.Common.{◌≡◌, ℕ, List, Bool, true, false, map, sym, ◌∙◌, subst, Option, Some, None}
+use Rattle.std.proofs.Common.{◌≡◌, ℕ, List, true, false, map, sym, ◌∙◌, subst, Option, Some, None}
 use Rattle.us_format.specs.Declaration.{query_of}
 use Rattle.us_format.specs.Known.{rule}
-use Rattle.us_invert.specs.Table.{tree_at, trees}
+use Rattle.us_known.specs.Table.{tree_at, trees}
 use Rattle.us_invert.specs.Sources.{has_step, IsGiven}
 use Rattle.us_invert.proofs.Adding.{step-old, step-none, step-making, step-steps}
 use Rattle.us_invert.proofs.making.step_for.Goals as goal

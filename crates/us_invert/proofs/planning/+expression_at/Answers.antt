@@ -1,11 +1,10 @@
-use Rattle.std.proofs.Common.{◌≡◌, ◌<◌, ap, ap₂, sym, ◌∙◌, arith}
-use Rattle.us_expr.specs.declared.expression.Expr.{Expr}
+use Rattle.std.proofs.Common.{◌<◌, ap, ap₂, sym, ◌∙◌, arith}
 use Rattle.us_expr.specs.declared.expression.Expr.TheVariants.{rolls-I, rolls-J, rolls-Var}
 use Rattle.us_expr.specs.declared.expression.Expr.TheFolds.{fold-roll-Expr}
 use Rattle.us_expr.specs.declared.expression.Expr.TheOpen.{Expr-F}
 use Rattle.us_expr.specs.Tree.{Tree, tree, one_level, Sum, Difference, Quotient, Remainder}
 use Rattle.us_expr.proofs.Trees.{tree-Const, tree-Add, tree-Sub, tree-Div, tree-Rem}
-use Rattle.us_invert.specs.declared.table.Node.TheVariants.{Row, Col, Number as NumberNode, Variable as VariableNode, Sum as SumNode, Difference as DifferenceNode, Quotient as QuotientNode, Remainder as RemainderNode}
+use Rattle.us_known.specs.declared.table.Node.TheVariants.{Row, Col, Number as NumberNode, Variable as VariableNode, Sum as SumNode, Difference as DifferenceNode, Quotient as QuotientNode, Remainder as RemainderNode}
 use Rattle.us_invert.proofs.Ending.{node-below, node-tree}
 use Rattle.us_invert.proofs.planning.+expression_at.Goals as goal
 

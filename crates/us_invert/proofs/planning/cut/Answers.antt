@@ -1,4 +1,4 @@
-use Rattle.std.proofs.Common.{◌≡◌, ◌<◌, ◌≤◌, ◌+◌, ℕ, List, map, take, max, length, get_or, ap, sym, subst, ◌∙◌, arith}
+use Rattle.std.proofs.Common.{◌≡◌, ◌<◌, ◌≤◌, ◌+◌, ℕ, List, map, take, max, length, get_or, ap, sym, subst, ◌∙◌}
 use Rattle.us_expr.specs.Tree.{tree}
 use Rattle.us_format.specs.Known.{Steps}
 use Rattle.us_invert.specs.declared.steps.PlanStep.{PlanStep}

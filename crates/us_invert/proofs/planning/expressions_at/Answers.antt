@@ -1,7 +1,7 @@
-use Rattle.std.proofs.Common.{map, take, length, ap, ◌∙◌, arith}
+use Rattle.std.proofs.Common.{map, ap, ◌∙◌}
 use Rattle.std.proofs.lemmas.List.{take_all}
 use Rattle.us_expr.specs.Tree.{tree}
-use Rattle.us_invert.specs.Table.{tree_at, trees}
+use Rattle.us_known.specs.Table.{tree_at, trees}
 use Rattle.us_invert.specs.Made.{trees_at}
 use Rattle.us_invert.proofs.Ending.{exprs-more}
 use Rattle.us_invert.proofs.planning.expressions_at.Goals as goal

@@ -2,8 +2,8 @@ use Rattle.std.proofs.Common.{◌≤◌, ◌+◌, ◌*◌, List, map, length, ap
 use Rattle.std.proofs.lemmas.List.{length-map}
 use Rattle.us_expr.specs.Tree.{tree, RowIndex, ColIndex}
 use Rattle.us_format.specs.Declaration.{query_of}
-use Rattle.us_invert.specs.declared.table.Node.{Node}
-use Rattle.us_invert.specs.Table.{trees, IsTable}
+use Rattle.us_known.specs.declared.table.Node.{Node}
+use Rattle.us_known.specs.Table.{trees, IsTable}
 use Rattle.us_invert.proofs.Ending.{index-known, index-unknown, table-few}
 use Rattle.us_invert.proofs.planning.plan.Goals as goal
 

@@ -1,8 +1,8 @@
-use Rattle.std.proofs.Common.{◌≡◌, ◌<◌, length, get_or, sym, subst, ◌∙◌, arith, ℕ, Option, None}
+use Rattle.std.proofs.Common.{◌<◌, length, sym, subst, ◌∙◌, arith, ℕ, Option, None}
 use Rattle.std.proofs.lemmas.List.{get_or_default}
-use Rattle.us_invert.specs.Table.{tree_of, trees}
+use Rattle.us_known.specs.Table.{tree_of, trees}
 use Rattle.us_invert.specs.Made.{trees_at, IsStepNumber}
-use Rattle.us_invert.proofs.NodeTrees.{number-of-node}
+use Rattle.us_known.proofs.NodeTrees.{number-of-node}
 use Rattle.us_invert.proofs.Ending.{number-absent, number-there}
 use Rattle.us_invert.proofs.planning.step_number.Goals as goal
 

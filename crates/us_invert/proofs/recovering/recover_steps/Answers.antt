@@ -1,13 +1,13 @@
-use Rattle.std.proofs.Common.{Some, pos, ◌≤ℤ◌, ◌<ℤ◌, ◌^◌, ap₂, w64, SFits, rules, ◌≡◌, ◌<◌, ◌+◌, ℕ, ℤ, List, ◌++◌, ◌∷◌, [], map, length, get_or, ap, refl, sym, subst, ◌∙◌, arith}
+use Rattle.std.proofs.Common.{Some, pos, ap₂, w64, SFits, rules, ◌≡◌, ◌<◌, ◌+◌, ℕ, ℤ, List, ◌++◌, ◌∷◌, [], map, length, get_or, ap, refl, sym, subst, ◌∙◌, arith}
 use Rattle.std.proofs.lemmas.Int.{to_z-of_z}
-use Rattle.std.proofs.lemmas.List.{length-map, get_or-map, get_or_default}
+use Rattle.std.proofs.lemmas.List.{length-map, get_or-map}
 use Rattle.us_expr.specs.declared.expression.Expr.{Expr}
 use Rattle.us_expr.specs.Tree.{Tree, tree, RowIndex}
 use Rattle.us_expr.specs.Range.{range, IsRangeable}
-use Rattle.us_invert.specs.Table.{tree_at}
+use Rattle.us_known.specs.Table.{tree_at}
 use Rattle.us_invert.specs.Plan.{step_at, IsEarlier, IsSuited}
 use Rattle.us_invert.specs.Recovery.{found_of, IsLevelStep}
-use Rattle.us_invert.proofs.Walking.{IsOnWay, way-start, way-none, way-next, way-end, row-value, col-value, indices-below, rangeable-at, level-at}
+use Rattle.us_invert.proofs.Walking.{IsOnWay, way-start, way-none, way-next, way-end, rangeable-at, level-at}
 use Rattle.us_invert.proofs.recovering.recover_steps.Goals as goal
 
 -- the expression of a step, as a tree

@@ -4,12 +4,9 @@ use Rattle.us_build.specs.declared.fault.BuildFault.{BuildFault}
 use Rattle.std.proofs.Common.{◌≡◌, ◌<◌, ◌≤◌, length, arith, sym, ap, subst, ◌∙◌}
 use Rattle.std.proofs.lemmas.Result.{err_from_is_err_and}
 use Rattle.us_build.specs.declared.fault.BuildFault.TheVariants.{TooLarge}
-use Rattle.us_format.specs.Buffers.{size}
-use Rattle.us_format.specs.Program.{shape_in, entries_in}
 use Rattle.us_format.specs.Reading.{limit}
-use Rattle.us_judge.specs.Views.{declaration_of, plain_part}
 use Rattle.us_judge.specs.Kinds.{kinds_of}
-use Rattle.us_levels.proofs.Built.{IsCase, the_part, it, part-there, is-plain, piece-size-is, pieces-are, buffers-of-it, too-many, can-be-built, they-mean, unpacked-is, packs-ready, arranged-are}
+use Rattle.us_levels.proofs.Built.{IsCase, the_part, part-there, is-plain, piece-size-is, pieces-are, buffers-of-it, too-many, can-be-built, they-mean, unpacked-is, packs-ready, arranged-are}
 use Rattle.us_levels.proofs.building.build_plain.Goals as goal
 
 abbrev failed : BuildFault → Result Buffers BuildFault

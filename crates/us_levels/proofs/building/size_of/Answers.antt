@@ -1,5 +1,5 @@
-use Rattle.std.specs.Prelude.{min, IfOk}
-use Rattle.std.proofs.Common.{◌≡◌, ◌+◌, ◌<◌, ◌≤◌, length, arith, sym, ap, subst, ◌∙◌}
+use Rattle.std.specs.Prelude.{min}
+use Rattle.std.proofs.Common.{◌≡◌, ◌+◌, length, arith, ap, ◌∙◌}
 use Rattle.us_format.specs.Buffers.{size}
 use Rattle.us_format.specs.Program.{shape_in, entries_in}
 use Rattle.us_format.specs.Reading.{limit}

@@ -1,8 +1,8 @@
-use Rattle.std.proofs.Common.{◌≡◌, ◌<◌, ℕ, length, get_or, map, ap, sym, subst, ◌∙◌, arith}
+use Rattle.std.proofs.Common.{◌<◌, length, map, ap, sym, subst, ◌∙◌, arith}
 use Rattle.std.proofs.lemmas.List.{length-map, get_or-map}
 use Rattle.us_expr.specs.Tree.{tree, RowIndex}
 use Rattle.us_format.specs.Known.{Steps}
-use Rattle.us_invert.specs.Plan.{steps_of, item_at}
+use Rattle.us_invert.specs.Plan.{item_at}
 use Rattle.us_invert.proofs.PlanSteps.{expr-is}
 use Rattle.us_invert.proofs.recovery.RecoveryPlan.expr.Goals as goal
 

@@ -1,0 +1,140 @@
+-- Buffers that check are exactly the buffers of a matrix, within the limit.
+use Rattle.std.specs.Prelude.{nat_le, Result, Ok, Err, is_none}
+use Rattle.std.proofs.Common.{◌≡◌, ℕ, ◌≤◌, List, length, Bool, true, false, cond, not, eqb, min, ℤ, sym, refl, ap, ◌∙◌, subst, arith, Option, Some, None, eqb-true}
+use Rattle.std.proofs.Math.ListN.{length-map}
+use Rattle.std.proofs.lemmas.Bool.{false≢true}
+use Rattle.std.proofs.lemmas.Bool.Decides.{nat_tests}
+use Rattle.us_format.specs.Lists.{first_of, when}
+use Rattle.us_format.specs.Matrix.{Entry, Shape}
+use Rattle.us_format.specs.Declaration.{Declaration}
+use Rattle.us_format.specs.Packs.{written}
+use Rattle.us_format.specs.Buffers.{all_buffers, parts_of, buffers, size}
+use Rattle.us_format.specs.Reading.{limit, total_count, all_tests, misfit, fits, size_in}
+use Rattle.us_format.specs.Meaning.{Position, entries_of, collected, meaning}
+use Rattle.us_format.specs.Rules.{IsLawfulDeclaration}
+use Rattle.us_format.proofs.Whole.{buffers-are-counted, buffers-mean-matrix, size-is-of-buffers}
+use Rattle.us_judge.proofs.LawfulDeclarations.{accepted-declaration}
+use Rattle.us_judge.specs.Views.{declaration_of}
+use Rattle.us_levels.specs.declared.differing.Difference.{Difference}
+use Rattle.us_check.specs.declared.broken.Broken.TheVariants.{Lengths, TooLarge}
+use Rattle.us_check.specs.Checks.{difference_of, unless_different, compared, fitting, checked}
+use Rattle.us_check.specs.Laws.{AreBuffersOf, ChecksWellFormed, ChecksOwn, ChecksAccepted}
+use Rattle.us_check.proofs.Accepted.{accepted-small}
+use Rattle.us_check.proofs.Same.{none-same, same-all}
+
+pub fits-none : (s : Shape) (d : Declaration) (bufs : List (List ℤ)) → fits s d bufs ≡ true → misfit s d bufs ≡ None
+fits-none s d bufs h = go (misfit s d bufs) h
+  where
+    go : (o : Option ℕ) → is_none o ≡ true → o ≡ None
+    go None h = refl
+    go (Some k) h = absurd (false≢true h)
+
+-- buffers that fit are as many as the format has
+pub fits-count : (s : Shape) (d : Declaration) (bufs : List (List ℤ)) → fits s d bufs ≡ true → length bufs ≡ total_count d
+fits-count s d bufs h = go (eqb (length bufs) (total_count d)) refl (fits-none s d bufs h)
+  where
+    go : (b : Bool) → eqb (length bufs) (total_count d) ≡ b → cond b (first_of (λ t. when (not t.1) t.0) (all_tests s 0 d.parts bufs)) (Some (min (length bufs) (total_count d))) ≡ None
+        → length bufs ≡ total_count d
+    go true e q = eqb-true (length bufs) (total_count d) e
+    go false e q = absurd (cc)
+
+module _ (s : Shape) (d : Declaration) (bufs : List (List ℤ)) (m : List Entry) (law : IsLawfulDeclaration d) where
+  number : fits s d bufs ≡ true → length bufs ≡ length (all_buffers s (parts_of s d m))
+  number h = fits-count s d bufs h ∙ sym (buffers-are-counted s d m law)
+
+  -- buffers that fit and don't differ from those of the matrix are these
+  pub alike-built : fits s d bufs ≡ true → difference_of s d m bufs ≡ None → bufs ≡ buffers s d m
+  alike-built h e = none-same 0 (all_buffers s (parts_of s d m)) bufs (number h ∙ omega arith) e
+
+  pub built-alike : bufs ≡ buffers s d m → difference_of s d m bufs ≡ None
+  built-alike e = same-all 0 (all_buffers s (parts_of s d m)) bufs (ap length e ∙ length-map (all_buffers s (parts_of s d m)) written ∙ omega arith) e
+
+  pub built-small : bufs ≡ buffers s d m → size_in s d bufs ≤ limit → size s d m ≤ limit
+  built-small e h = subst (λ (n : ℕ). n ≤ limit) (ap (size_in s d) e ∙ size-is-of-buffers s d m law) h
+
+-- ---- what is checked
+
+below : (a b : ℕ) → nat_le a b ≡ true → a ≤ b
+below a b h = grind (arith, nat_tests)
+
+test-below : (a b : ℕ) → a ≤ b → nat_le a b ≡ true
+test-below a b h = grind (arith, nat_tests)
+
+module _ (s : Shape) (d : Declaration) (bufs : List (List ℤ)) (m : List Entry) (law : IsLawfulDeclaration d) where
+  alike : (n : List Entry) (o : Option Difference) → unless_different n o ≡ Ok m → (n ≡ m) × (o ≡ None)
+  alike n None h = (cc, refl)
+  alike n (Some e) h = absurd (cc)
+
+  found : (r : Result (List Entry) Position) → compared s d bufs r ≡ Ok m → (r ≡ Ok m) × (difference_of s d m bufs ≡ None)
+  found (Err at) h = absurd (cc)
+  found (Ok n) h =
+      let a = alike n (difference_of s d n bufs) h in
+      (ap Ok a.0, subst (λ (x : List Entry). difference_of s d x bufs ≡ None) a.0 a.1)
+
+  pub checked-is : checked s d bufs ≡ Ok m → AreBuffersOf s d bufs m
+  checked-is h = go (misfit s d bufs) refl h
+    where
+      within : misfit s d bufs ≡ None → (b : Bool) → nat_le (size_in s d bufs) limit ≡ b → cond b (compared s d bufs (collected s d bufs)) (Err TooLarge) ≡ Ok m → AreBuffersOf s d bufs m
+      within e false t q = absurd (cc)
+      within e true t q =
+          let f = found (collected s d bufs) q in
+          let fit : fits s d bufs ≡ true = ap is_none e in
+          record {
+            means = rw (fit, f.0) refl;
+            built = alike-built s d bufs m law fit f.1;
+            small = below (size_in s d bufs) limit t;
+          }
+
+      go : (o : Option ℕ) → misfit s d bufs ≡ o → fitting s d bufs o ≡ Ok m → AreBuffersOf s d bufs m
+      go (Some k) e q = absurd (cc)
+      go None e q = within e (nat_le (size_in s d bufs) limit) refl q
+
+  pub is-checked : AreBuffersOf s d bufs m → checked s d bufs ≡ Ok m
+  is-checked a = go (fits s d bufs) refl a.means
+    where
+      collects : (r : Result (List Entry) Position) → entries_of r ≡ Some m → r ≡ Ok m
+      collects (Ok n) h = let e : n ≡ m = cc in ap Ok e
+      collects (Err at) h = absurd (cc)
+
+      go : (b : Bool) → fits s d bufs ≡ b → cond b (entries_of (collected s d bufs)) None ≡ Some m → checked s d bufs ≡ Ok m
+      go false e q = absurd (cc)
+      go true e q =
+          ap (fitting s d bufs) (fits-none s d bufs e)
+          ∙ ap (λ b. cond b (compared s d bufs (collected s d bufs)) (Err TooLarge)) (test-below (size_in s d bufs) limit a.small)
+          ∙ ap (compared s d bufs) (collects (collected s d bufs) q)
+          ∙ ap (unless_different m) (built-alike s d bufs m law a.built)
+
+-- ---- the laws
+
+pub checks-well-formed : ChecksWellFormed
+checks-well-formed s d bufs m law = (checked-is s d bufs m law, is-checked s d bufs m law)
+
+pub checks-own : ChecksOwn
+checks-own s d m law im small le =
+    is-checked s d (buffers s d m) m law (record {
+      means = (buffers-mean-matrix s d m law im).meant small;
+      built = refl;
+      small = subst (λ (n : ℕ). n ≤ limit) (sym (size-is-of-buffers s d m law)) le;
+    })
+
+pub checks-accepted : ChecksAccepted
+checks-accepted s x m v e im le = checks-own s (declaration_of x) m (accepted-declaration x v e) im (accepted-small s x m v e) le
+
+-- ---- buffers that fit
+
+pub fits-means : (s : Shape) (d : Declaration) (bufs : List (List ℤ)) (m : List Entry) → fits s d bufs ≡ true → collected s d bufs ≡ Ok m → meaning s d bufs ≡ Some m
+fits-means s d bufs m h c = rw (h, c) refl
+
+pub fits-from : (s : Shape) (d : Declaration) (bufs : List (List ℤ)) → misfit s d bufs ≡ None → fits s d bufs ≡ true
+fits-from s d bufs h = ap is_none h
+
+pub within-from : (s : Shape) (d : Declaration) (bufs : List (List ℤ)) (b : Bool) → b ≡ nat_le (size_in s d bufs) limit → b ≡ true → size_in s d bufs ≤ limit
+within-from s d bufs b e h = below (size_in s d bufs) limit (sym e ∙ h)
+
+pub checked-misfit : (s : Shape) (d : Declaration) (bufs : List (List ℤ)) (k : ℕ) → misfit s d bufs ≡ Some k → checked s d bufs ≡ Err (Lengths k)
+checked-misfit s d bufs k h = ap (fitting s d bufs) h
+
+-- from the positions on
+pub checked-fitting : (s : Shape) (d : Declaration) (bufs : List (List ℤ)) → fits s d bufs ≡ true → size_in s d bufs ≤ limit → checked s d bufs ≡ compared s d bufs (collected s d bufs)
+checked-fitting s d bufs h l =
+    ap (fitting s d bufs) (fits-none s d bufs h) ∙ ap (λ (t : Bool). cond t (compared s d bufs (collected s d bufs)) (Err TooLarge)) (test-below (size_in s d bufs) limit l)

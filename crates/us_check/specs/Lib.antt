@@ -1,0 +1,5 @@
+pub mod Kept
+pub mod Held
+pub mod Checks
+pub mod Repeats
+pub mod Laws

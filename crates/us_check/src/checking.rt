@@ -1,0 +1,99 @@
+//! Checking buffers.
+ghost use Rattle.std.specs.Prelude.{◌≡◌, ◌+◌, ◌<◌, ◌≤◌, Ok, true, IfOk, OnOk, IfErr};
+ghost use Rattle.us_matrix.specs.Map.{IsSide};
+ghost use Rattle.us_format.specs.Meaning.{collected};
+ghost use Rattle.us_format.specs.Program.{plain_shape, shape_in, entries_in};
+ghost use Rattle.us_format.specs.Reading.{limit, fits, size_in};
+ghost use Rattle.us_judge.specs.Views.{declaration_of};
+ghost use Rattle.us_check.specs.declared.broken.Broken.TheVariants.{Climb};
+ghost use Rattle.us_check.specs.Checks.{Tells, TellsChecked, TellsFault, checked, compared};
+
+use crate::broken::Broken;
+use crate::collecting::matrix_of;
+use crate::comparing::compare;
+use crate::held::Held;
+use crate::repeats::first_repeated;
+use std::alloc::Global;
+use us_climb::{Position, is_within_limit, misfit, read_entries};
+use us_judge::Format;
+use us_matrix::{Buffers, Matrix, Shape};
+
+// Whether the lengths fit, and are within the limit.
+fn test_lengths(format: &Format, shape: Shape, buffers: &Buffers) -> Result<(), Broken>
+    requires rows { IsSide shape.rows }
+    requires cols { IsSide shape.cols }
+    ensures fitting { OnOk result (fits (plain_shape shape) (declaration_of format.now) buffers.now ≡ true) }
+    ensures within { OnOk result (size_in (plain_shape shape) (declaration_of format.now) buffers.now ≤ limit) }
+    ensures fault { IfErr result (λ fault. TellsFault (checked (plain_shape shape) (declaration_of format.now) buffers.now) fault) }
+{
+    if let Some(buffer) = misfit(format, shape, buffers) {
+        return Err(Broken::Lengths { buffer });
+    }
+    if !is_within_limit(format, shape, buffers) {
+        return Err(Broken::TooLarge);
+    }
+    Ok(())
+}
+
+// The fault of a position, whose part is named from 1 on.
+fn climb_fault(position: Position) -> Broken
+    requires { position.part < 2 }
+    ensures { result ≡ Climb (position.part + 1) position.x }
+{
+    Broken::Climb {
+        part: position.part as u64 + 1,
+        x: position.x as u64,
+    }
+}
+
+// The matrix that buffers within the limit mean, or the first position that has no coordinate of its own.
+fn read_matrix(
+    alloc: Global,
+    format: &Format,
+    shape: Shape,
+    buffers: &Buffers,
+) -> Result<Matrix, Broken>
+    requires rows { IsSide shape.rows }
+    requires cols { IsSide shape.cols }
+    ensures shape { IfOk result (λ m. shape_in m ≡ plain_shape shape) }
+    ensures read { IfOk result (λ m. collected (plain_shape shape) (declaration_of format.now) buffers.now ≡ Ok (entries_in m)) }
+    ensures fault { IfErr result (λ fault. TellsFault (compared (plain_shape shape) (declaration_of format.now) buffers.now (collected (plain_shape shape) (declaration_of format.now) buffers.now)) fault) }
+{
+    let read = read_entries(alloc, format, shape, buffers)?;
+    if let Some(index) = first_repeated(alloc, &read.found)? {
+        return Err(climb_fault(read.found[index].position));
+    }
+    if let Some(position) = read.failed {
+        return Err(climb_fault(position));
+    }
+    let matrix = matrix_of(alloc, shape, &read.found)?;
+    Ok(matrix)
+}
+
+// The matrix held with buffers that fit and are within the limit, or the first reason why they are not well-formed.
+fn check_fitting(
+    alloc: Global,
+    format: Format,
+    shape: Shape,
+    buffers: Buffers,
+) -> Result<Held, Broken>
+    requires rows { IsSide shape.rows }
+    requires cols { IsSide shape.cols }
+    requires fitting { fits (plain_shape shape) (declaration_of format) buffers ≡ true }
+    requires within { size_in (plain_shape shape) (declaration_of format) buffers ≤ limit }
+    ensures { Tells (plain_shape shape) format buffers (compared (plain_shape shape) (declaration_of format) buffers (collected (plain_shape shape) (declaration_of format) buffers)) result }
+{
+    let matrix = read_matrix(alloc, &format, shape, &buffers)?;
+    compare(alloc, format, matrix, buffers)
+}
+
+/// The matrix whose buffers in the format these are, held with them; else the first reason why they are not well-formed within the
+/// limit: lengths that don't fit, then the limit, then the first position that has no coordinate of its own, then the first difference.
+pub fn check(alloc: Global, format: Format, shape: Shape, buffers: Buffers) -> Result<Held, Broken>
+    requires rows { IsSide shape.rows }
+    requires cols { IsSide shape.cols }
+    ensures { TellsChecked (plain_shape shape) format buffers result }
+{
+    test_lengths(&format, shape, &buffers)?;
+    check_fitting(alloc, format, shape, buffers)
+}

@@ -1,0 +1,16 @@
+pub mod Columns
+pub mod Placing
+pub mod OwnPlaces
+pub mod OnePart
+pub mod LevelsLaid
+pub mod LevelSizes
+pub mod PartThere
+pub mod ColumnCells
+pub mod Walks
+pub mod OneMisfit
+pub mod FirstParents
+pub mod Tables
+pub mod LevelTables
+pub mod FewNames
+pub mod OneEntry
+pub mod ReadSteps

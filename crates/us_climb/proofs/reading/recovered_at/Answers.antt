@@ -1,0 +1,45 @@
+use Rattle.std.proofs.Common.{◌≡◌, ℕ, List, [], sym, ap, ◌∙◌}
+use Rattle.std.specs.Prelude.{Option, None}
+use Rattle.us_format.specs.Lists.{then_do}
+use Rattle.us_format.specs.Program.{plain_shape}
+use Rattle.us_format.specs.Coordinates.{variable_ranges}
+use Rattle.us_format.specs.Recover.{recovered}
+use Rattle.us_invert.specs.Recovery.{cell_of}
+use Rattle.us_judge.specs.Format.{part_at}
+use Rattle.us_judge.specs.Views.{declaration_of}
+use Rattle.us_climb.specs.declared.layout.LevelLayout.{LevelLayout}
+use Rattle.us_climb.specs.Layout.{climb_by}
+use Rattle.us_climb.proofs.OneEntry.{IsTop, climbed_none, climbed_some, climb_below, coordinates-fit, found-back}
+use Rattle.us_climb.proofs.reading.recovered_at.Goals as goal
+
+pub returns-in_err-climb_from : goal.returns-in_err-climb_from
+returns-in_err-climb_from c =
+    let none : climb_by c.as_slice-levels.result.now c.args.reader.now.tables.buffers.now c.args.x ≡ None =
+    climbed_none c.climb_from.result c.climb_from.new.coordinates.items _ c.climb_from.ensures.climbed c.in_err-climb_from.was in
+    ap cell_of c.from_residual.ensures
+    ∙ sym (ap (λ (o : Option (ℕ × List ℕ)). then_do o (λ up. recovered (plain_shape c.args.reader.now.shape) (part_at (declaration_of c.args.reader.now.format.now) 0) (record { coords = up.1; extents = []; tables = [] })))
+    (ap (λ (ls : List LevelLayout). climb_by ls c.args.reader.now.tables.buffers.now c.args.x) (sym c.as_slice-levels.ensures.value) ∙ none))
+
+pub recover_with-requires-clause-coordinates : goal.recover_with-requires-clause-coordinates
+recover_with-requires-clause-coordinates c =
+    let r = c.args.reader.now in
+    let top : IsTop c.climb_from.new.coordinates.items (climb_by c.as_slice-levels.result.now c.args.reader.now.tables.buffers.now c.args.x) =
+    climbed_some c.climb_from.result c.in_ok-climb_from.field-0 c.climb_from.new.coordinates.items _ c.climb_from.ensures.climbed c.in_ok-climb_from.was in
+    let s = plain_shape r.shape in
+    let p = part_at (declaration_of r.format.now) 0 in
+    coordinates-fit s p r.tables.buffers.now r.plan.now r.ranges.shape_rows r.ranges.shape_cols r.ranges.vars.items c.climb_from.new.coordinates.items top.coords
+    c.requires.plan_is c.requires.ranges.rows_are c.requires.ranges.cols_are c.requires.ranges.vars_are top.values_are
+    (climb_below s p r.tables.buffers.now 0 p.levels c.args.x top.above top.coords
+    (ap (λ (ls : List LevelLayout). climb_by ls r.tables.buffers.now c.args.x) (sym (c.as_slice-levels.ensures.value ∙ c.requires.laid.levels)) ∙ top.climb_is))
+
+pub returns : goal.returns
+returns c =
+    let r = c.args.reader.now in
+    let top : IsTop c.climb_from.new.coordinates.items (climb_by c.as_slice-levels.result.now c.args.reader.now.tables.buffers.now c.args.x) =
+    climbed_some c.climb_from.result c.in_ok-climb_from.field-0 c.climb_from.new.coordinates.items _ c.climb_from.ensures.climbed c.in_ok-climb_from.was in
+    let s = plain_shape r.shape in
+    let p = part_at (declaration_of r.format.now) 0 in
+    c.recover_with.ensures s p (record { rows_are = c.requires.ranges.rows_are; cols_are = c.requires.ranges.cols_are; ranges_are = c.requires.ranges.vars_are ∙ ap (λ (es : List ℕ). variable_ranges (plain_shape c.args.reader.now.shape) es (part_at (declaration_of c.args.reader.now.format.now) 0)) (sym c.requires.no_extents); plan_is = c.requires.plan_is })
+    ∙ found-back s p r.tables.buffers.now c.climb_from.new.coordinates.items r.tables.at.items r.tables.extents.items top.coords top.values_are c.requires.no_tables c.requires.no_extents
+    ∙ sym (ap (λ (o : Option (ℕ × List ℕ)). then_do o (λ up. recovered (plain_shape c.args.reader.now.shape) (part_at (declaration_of c.args.reader.now.format.now) 0) (record { coords = up.1; extents = []; tables = [] })))
+    (ap (λ (ls : List LevelLayout). climb_by ls c.args.reader.now.tables.buffers.now c.args.x) (sym c.as_slice-levels.ensures.value) ∙ top.climb_is))

@@ -1,0 +1,5 @@
+pub mod Layout
+pub mod Own
+pub mod Entries
+pub mod Readers
+pub mod Parents

@@ -1,0 +1,239 @@
+//! Where the pieces of a format's part stand among its buffers.
+ghost use Rattle.std.specs.Prelude.{◌≡◌, ◌+◌, ◌<◌, ◌≤◌, ◌^◌, ℕ, Bool, [], ◌∷◌, ◌++◌, false, map, length, slice_index_or, filter, drop};
+ghost use Rattle.us_expr.specs.Range.{IsNear};
+ghost use Rattle.us_format.specs.Program.{plain_shape};
+ghost use Rattle.us_format.specs.Declaration.{LevelColumn, ValueColumn};
+ghost use Rattle.us_expr.specs.Tree.{RowIndex};
+ghost use Rattle.us_format.specs.Coordinates.{level_range, span as span_of};
+ghost use Rattle.us_format.specs.Packs.{CellsOf, PosOf, level_pieces, is_packed, own_pieces};
+ghost use Rattle.us_format.specs.Reading.{own_place, pack_place};
+ghost use Rattle.us_judge.specs.Buffers.{is_own};
+ghost use Rattle.us_judge.specs.Format.{part_at};
+ghost use Rattle.us_judge.specs.Short.{IsShort};
+ghost use Rattle.us_judge.specs.Views.{column_of, plain_part, plain_body, declaration_of};
+ghost use Rattle.us_matrix.specs.Map.{IsSide};
+ghost use Rattle.us_climb.specs.Layout.{place_in, level_layout, IsLayout};
+ghost use Rattle.us_climb.specs.Own.{AreOwnFrom, IsAccepted, IsPartOf, IsUndivided};
+
+use crate::packs::{begins_some, column_in, is_packed, pack_with};
+use arrayvec::ArrayVec;
+use us_decl::{Body, Column, Part};
+use us_expr::Range;
+use us_format::Kind;
+use us_judge::Format;
+use us_matrix::Shape;
+
+/// Where the cells of a column stand: cell `x` is cell `x * columns + column` of the buffer.
+#[derive(Clone, Copy, Debug, Default, PartialEq, Eq)]
+pub struct ColumnPlace {
+    /// The number of the buffer.
+    pub buffer: usize,
+    /// The number of the column among those of the buffer.
+    pub column: usize,
+    /// How many columns the buffer has.
+    pub columns: usize,
+    /// Whether a pack begins with the column.
+    pub begins: bool,
+}
+
+/// The kind and the size of a level, and where its pieces stand.
+#[derive(Clone, Copy, Debug, PartialEq, Eq)]
+pub struct LevelLayout {
+    /// The kind.
+    pub kind: Kind,
+    /// How many coordinates there are.
+    pub size: u64,
+    /// The number of the buffer of the starts, for a level that has them.
+    pub starts: usize,
+    /// The place of the coordinates, for a level that has them.
+    pub cells: ColumnPlace,
+}
+
+/// The levels of a part, and the place of its values.
+#[derive(Debug, Drop)]
+pub struct Layout {
+    /// The levels in order.
+    pub levels: ArrayVec<LevelLayout, 6>,
+    /// The place of the values.
+    pub values: ColumnPlace,
+}
+
+impl Default for LevelLayout {
+    fn default() -> LevelLayout {
+        LevelLayout {
+            kind: Kind::Full,
+            size: 0,
+            starts: 0,
+            cells: ColumnPlace::default(),
+        }
+    }
+}
+
+/// The place of a column, which is in a pack or in a buffer of its own, the number of which is `own`.
+fn column_place(part: &Part, first_pack: usize, own: usize, column: Column) -> ColumnPlace
+    requires first { first_pack ≡ pack_place (plain_part part.now) 0 }
+    requires room { first_pack + length part.now.packs < 2 ^ 64 }
+    requires own { is_packed (plain_part part.now) (CellsOf (column_of column)) ≡ false → own ≡ own_place (plain_part part.now) (CellsOf (column_of column)) }
+    ensures { result ≡ place_in (plain_part part.now) (column_of column) }
+{
+    let begins = begins_some(part, column);
+    match pack_with(part, column) {
+        Some(pack) => {
+            let columns = &part.packs.as_slice()[pack];
+            ColumnPlace {
+                buffer: first_pack + pack,
+                column: column_in(columns, column),
+                columns: columns.len(),
+                begins,
+            }
+        }
+        None => ColumnPlace {
+            buffer: own,
+            column: 0,
+            columns: 1,
+            begins,
+        },
+    }
+}
+
+/// The place of no column.
+fn no_place() -> ColumnPlace
+    ensures { result ≡ record { buffer = 0; column = 0; columns = 1; begins = false } }
+{
+    ColumnPlace {
+        buffer: 0,
+        column: 0,
+        columns: 1,
+        begins: false,
+    }
+}
+
+/// How many coordinates a level has whose values have this range.
+fn span(range: Range) -> u64
+    requires lo { IsNear (2 ^ 37) range.lo }
+    requires hi { IsNear (2 ^ 37) range.hi }
+    ensures value { result ≡ span_of range }
+    ensures narrow { result < 2 ^ 63 }
+{
+    let count = range.hi + 1 - range.lo;
+    if count < 0 { 0 } else { count.unsigned_abs() }
+}
+
+/// How many buffers of its own a column has: one, unless it is in a pack.
+fn own_cells(part: &Part, column: Column) -> usize
+    ensures count { result ≡ length (filter (is_own (plain_part part.now)) (CellsOf (column_of column) ∷ [])) }
+    ensures few { result ≤ 1 }
+{
+    if is_packed(part, column) { 0 } else { 1 }
+}
+
+/// How many buffers of its own a level has.
+fn own_of_level(part: &Part, kind: Kind, level: usize) -> usize
+    requires { level ≤ 16 }
+    ensures count { result ≡ length (filter (is_own (plain_part part.now)) (level_pieces level kind)) }
+    ensures few { result ≤ 2 }
+{
+    match kind {
+        Kind::Full => 0,
+        Kind::Compressed | Kind::Listed => 1 + own_cells(part, Column::Level(level as u32)),
+        Kind::Slot => own_cells(part, Column::Level(level as u32)),
+    }
+}
+
+/// The layout of a level of this kind and size. `own` is the number of the next buffer that no pack has.
+fn level_layout(
+    part: &Part,
+    level: usize,
+    size: u64,
+    kind: Kind,
+    own: usize,
+    first_pack: usize,
+) -> LevelLayout
+    requires queries { (plain_part part.now).queries ≡ [] }
+    requires first { first_pack ≡ pack_place (plain_part part.now) 0 }
+    requires room { first_pack + length part.now.packs < 2 ^ 64 }
+    requires level { level ≤ 16 }
+    requires own_few { own ≤ 1000 }
+    requires own { AreOwnFrom (plain_part part.now) own level kind }
+    ensures { result ≡ level_layout (plain_part part.now) level size kind }
+{
+    let column = Column::Level(level as u32);
+    match kind {
+        Kind::Full => LevelLayout {
+            kind,
+            size,
+            starts: 0,
+            cells: no_place(),
+        },
+        Kind::Compressed | Kind::Listed => LevelLayout {
+            kind,
+            size,
+            starts: own,
+            cells: column_place(part, first_pack, own + 1, column),
+        },
+        Kind::Slot => LevelLayout {
+            kind,
+            size,
+            starts: 0,
+            cells: column_place(part, first_pack, own, column),
+        },
+    }
+}
+
+/// How many coordinates a level of a format's part has.
+fn level_size(format: &Format, level: usize, shape: Shape) -> u64
+    requires accepted { IsAccepted format.now }
+    requires part { 0 < length (declaration_of format.now).parts }
+    requires level { level < length (part_at (declaration_of format.now) 0).levels }
+    requires rows { shape.rows < 2 ^ 31 }
+    requires cols { shape.cols < 2 ^ 31 }
+    ensures value { result ≡ span_of (level_range (plain_shape shape) (map (λ q. 0) (part_at (declaration_of format.now) 0).queries) (part_at (declaration_of format.now) 0) (slice_index_or (part_at (declaration_of format.now) 0).levels level RowIndex)) }
+    ensures narrow { result < 2 ^ 63 }
+{
+    span(format.level_range(0, level, shape.rows, shape.cols))
+}
+
+/// The layout of a format's part, the packs of which have the buffers from this number on.
+fn layout_of(format: &Format, part: &Part, shape: Shape, first_pack: usize) -> Layout
+    requires part { IsPartOf format.now (plain_part part.now) }
+    requires first { first_pack ≡ pack_place (plain_part part.now) 0 }
+    requires room { first_pack + length part.now.packs < 2 ^ 64 }
+    requires rows { shape.rows < 2 ^ 31 }
+    requires cols { shape.cols < 2 ^ 31 }
+    ensures { IsLayout (plain_shape shape) (plain_part part.now) result }
+{
+    let mut levels = ArrayVec::new();
+    let mut own = 0;
+    for level in 0..part.levels.len() {
+        let kind = format.kind(0, level);
+        let size = level_size(format, level, shape);
+        levels.push(level_layout(part, level, size, kind, own, first_pack));
+        own += own_of_level(part, kind, level);
+    }
+    let values = column_place(part, first_pack, own, Column::Val);
+    Layout { levels, values }
+}
+
+/// The part of an undivided body.
+pub fn part_of(body: &Body) -> &Part
+    ensures { plain_part result.now ≡ part_at (plain_body body.now) 0 }
+{
+    match body {
+        Body::One(part) => part,
+        Body::Two { first, .. } => first,
+    }
+}
+
+impl Layout {
+    /// The layout of a format's part, for a matrix of this shape.
+    pub fn of(format: &Format, shape: Shape) -> Layout
+        requires rows { IsSide shape.rows }
+        requires cols { IsSide shape.cols }
+        ensures laid { IsLayout (plain_shape shape) (part_at (declaration_of format.now) 0) result }
+        ensures undivided { IsUndivided (declaration_of format.now) }
+    {
+        let part = part_of(&format.decl().body);
+        let first_pack = format.buffers() - part.packs.len();
+        layout_of(format, part, shape, first_pack)
+    }
+}

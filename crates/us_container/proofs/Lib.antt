@@ -1,0 +1,11 @@
+pub mod Lengths
+pub mod Differing
+pub mod CellsRead
+pub mod Steps
+pub mod Chain
+pub mod Declarations
+pub mod Spelled
+pub mod Whole
+pub mod Written
+pub mod Bounds
+pub mod TextBounds

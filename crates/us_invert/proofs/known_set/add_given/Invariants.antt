@@ -1,8 +1,0 @@
-use Rattle.std.proofs.Common.{map, take}
-use Rattle.us_expr.specs.Tree.{tree}
-use Rattle.us_invert.specs.Table.{trees}
-use Rattle.us_invert.specs.Flags.{AddsGiven}
-use Rattle.us_invert.proofs.known_set.add_given.Given as goal
-
-abbrev pub invariant-loop-e : goal.invariant-loop-e
-invariant-loop-e l = AddsGiven (trees l.nodes) (map tree (take l.e-index l.given)) l.fn.flags l.flags

@@ -1,6 +1,0 @@
-use Rattle.std.proofs.Common.{◌≡◌, map, take}
-use Rattle.us_invert.specs.Flags.{is_number}
-use Rattle.us_invert.proofs.known_set.constants.Given as goal
-
-abbrev pub invariant-loop-node : goal.invariant-loop-node
-invariant-loop-node l = l.flags.items ≡ map is_number (take l.node-index l.nodes)

@@ -1,5 +1,0 @@
-use Rattle.us_invert.specs.Rules.{QueryRules}
-use Rattle.us_invert.proofs.rules.add_query_rules.Given as goal
-
-abbrev pub invariant-loop-query : goal.invariant-loop-query
-invariant-loop-query l = QueryRules l.nodes l.queries l.fn.rules.items l.query-index l.rules.items

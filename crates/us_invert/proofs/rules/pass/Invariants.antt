@@ -1,5 +1,0 @@
-use Rattle.us_invert.proofs.Passing.{IsPassed}
-use Rattle.us_invert.proofs.rules.pass.Given as goal
-
-abbrev pub invariant-loop-rule : goal.invariant-loop-rule
-invariant-loop-rule l = IsPassed l.rules l.rule-index l.fn.known l.known l.changed

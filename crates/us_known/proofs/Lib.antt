@@ -1,0 +1,9 @@
+pub mod NodeTrees
+pub mod Inserting
+pub mod Finding
+pub mod Passing
+pub mod Loops
+pub mod Flagged
+pub mod KnownIs
+pub mod KnownFlags
+pub mod KnownEnd

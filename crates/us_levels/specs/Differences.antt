@@ -1,0 +1,21 @@
+-- Where lists of cells differ from buffers.
+use Rattle.std.specs.Prelude.{ℕ, suc, ◌-◌, ◌^◌, min, ℤ, List, [], ◌∷◌, length, not, nat_eq, Option, Some, None}
+use Rattle.std.specs.Ordering.{int_eq}
+use Rattle.us_format.specs.Lists.{then_do, or_else, when, first_from, nth, cell}
+use Rattle.us_format.specs.Packs.{Buffer}
+use Rattle.us_levels.specs.declared.differing.Difference.{Difference}
+use Rattle.us_levels.specs.declared.differing.Difference.TheVariants.{Cell, Long}
+
+-- the first cell of both at which they differ
+abbrev pub first_cell : Buffer → List ℤ → Option ℕ
+first_cell b xs = first_from (λ x. not (int_eq (cell xs x) (b.cell x))) 0 (min (length xs) b.len)
+
+-- of the buffer k: the first cell that differs, or the length where all common cells agree
+abbrev pub difference_at : ℕ → Buffer → List ℤ → Option Difference
+difference_at k b xs =
+    or_else (then_do (first_cell b xs) (λ x. Some (Cell k x (cell xs x) (b.cell x)))) (when (not (nat_eq (length xs) b.len)) (Long k (length xs) (min b.len (2 ^ 64 - 1))))
+
+-- of the first buffer that differs, the buffers being numbered from k on
+abbrev pub first_difference : ℕ → List Buffer → List (List ℤ) → Option Difference
+first_difference k [] bufs = None
+first_difference k (b ∷ bs) bufs = or_else (difference_at k b (nth bufs k)) (first_difference (suc k) bs bufs)

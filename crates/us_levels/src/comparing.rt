@@ -1,0 +1,158 @@
+//! Comparing lists of cells with buffers.
+ghost use Rattle.std.specs.Prelude.{◌≡◌, ◌<◌, ◌≤◌, ◌+◌, ◌^◌, All, map, length, not, take, None, IfOk};
+ghost use Rattle.std.specs.List.{filter};
+ghost use Rattle.std.specs.Ordering.{int_eq};
+ghost use Rattle.us_format.specs.Lists.{cell, nth};
+ghost use Rattle.us_format.specs.Packs.{CellsOf, is_packed};
+ghost use Rattle.us_judge.specs.Views.{column_of, plain_part};
+ghost use Rattle.us_layout.specs.Arranging.{list_of, plain_piece};
+ghost use Rattle.us_layout.specs.Interleaving.{interleaved_cells, HaveOneLength};
+ghost use Rattle.us_levels.specs.Lists.{list_difference, lists_difference, own_lists};
+
+use crate::differing::Difference;
+use std::alloc::{AllocError, Global};
+use us_decl::{Pack, Part};
+use us_layout::{Piece, is_packed, pack_cells};
+use us_matrix::Buffers;
+
+/// Cell x of a list.
+fn cell_at(cells: &[i64], x: usize) -> i64
+    requires { x < length cells.now }
+    ensures { result ≡ cell cells.now x }
+{
+    cells[x]
+}
+
+/// Whether two numbers are equal.
+fn is_equal(a: i64, b: i64) -> bool
+    ensures { result ≡ int_eq a b }
+{
+    a == b
+}
+
+/// Where a buffer with the cells `have` differs from the cells `want`.
+pub(crate) fn list_difference(buffer: u64, have: &[i64], want: &[i64]) -> Option<Difference>
+    ensures { result ≡ list_difference buffer want.now have.now }
+{
+    let common = have.len().min(want.len());
+    for x in 0..common {
+        let (old, new) = (cell_at(have, x), cell_at(want, x));
+        if !is_equal(old, new) {
+            return Some(Difference::Cell {
+                buffer,
+                x: x as u64,
+                have: old,
+                want: new,
+            });
+        }
+    }
+    if have.len() != want.len() {
+        return Some(Difference::Long {
+            buffer,
+            have: have.len() as u64,
+            want: want.len() as u64,
+        });
+    }
+    None
+}
+
+/// The cells of the buffer with this number, none where there is no such buffer.
+fn cells_of(buffers: &Buffers, place: usize) -> &[i64]
+    ensures { result.now ≡ nth buffers.now place }
+{
+    if place < buffers.count() {
+        buffers.list(place)
+    } else {
+        &[]
+    }
+}
+
+/// Where a buffer differs from the cells that it should have.
+fn buffer_difference(buffers: &Buffers, place: usize, want: &[i64]) -> Option<Difference>
+    ensures { result ≡ list_difference place want.now (nth buffers.now place) }
+{
+    list_difference(place as u64, cells_of(buffers, place), want)
+}
+
+/// How many of some pieces no pack has.
+fn own_count(part: &Part, names: &[Piece]) -> usize
+    ensures { result ≡ length (filter (λ x. not (is_packed (plain_part part.now) x)) (map plain_piece names.now)) }
+{
+    let mut count = 0;
+    for name in names {
+        if !is_packed(part, *name) {
+            count += 1;
+        }
+    }
+    count
+}
+
+/// The first difference of the buffers from the lists of the pieces that no pack has, where the lists in front of
+/// `first` don't differ.
+pub(crate) fn own_difference(
+    part: &Part,
+    names: &[Piece],
+    lists: &Buffers,
+    first: usize,
+    buffers: &Buffers,
+) -> Option<Difference>
+    requires first { first ≤ length lists.now }
+    requires few { length lists.now ≤ length names.now }
+    ensures { lists_difference 0 (own_lists (plain_part part.now) (map plain_piece names.now) (take first lists.now)) buffers.now ≡ None → result ≡ lists_difference 0 (own_lists (plain_part part.now) (map plain_piece names.now) lists.now) buffers.now }
+{
+    let mut place = own_count(part, &names[..first]);
+    for k in first..lists.count() {
+        if is_packed(part, names[k]) {
+            continue;
+        }
+        let found = buffer_difference(buffers, place, lists.list(k));
+        if found.is_some() {
+            return found;
+        }
+        place += 1;
+    }
+    None
+}
+
+/// The first difference of the buffers from the packs, the first of which has this place, where the lists of the pieces
+/// are known.
+fn packs_difference(
+    alloc: Global,
+    packs: &[Pack],
+    first: usize,
+    names: &[Piece],
+    lists: &Buffers,
+    buffers: &Buffers,
+) -> Result<Option<Difference>, AllocError>
+    requires room { first + length packs.now < 2 ^ 64 }
+    requires packs { All (λ pack. HaveOneLength (map (λ c. list_of (map plain_piece names.now) lists.now (CellsOf c)) (map column_of pack))) packs.now }
+    ensures { IfOk result (λ d. d ≡ lists_difference first (map (λ pack. interleaved_cells (map (λ c. list_of (map plain_piece names.now) lists.now (CellsOf c)) (map column_of pack))) packs.now) buffers.now) }
+{
+    let mut place = first;
+    for pack in packs {
+        let cells = pack_cells(alloc, names, lists, pack)?;
+        let found = buffer_difference(buffers, place, &cells);
+        if found.is_some() {
+            return Ok(found);
+        }
+        place += 1;
+    }
+    Ok(None)
+}
+
+/// The first difference of the buffers from the packs of a part, where the lists of its pieces are known. The buffers of
+/// the pieces that no pack has stand in front of them.
+pub(crate) fn pack_difference(
+    alloc: Global,
+    part: &Part,
+    names: &[Piece],
+    lists: &Buffers,
+    buffers: &Buffers,
+) -> Result<Option<Difference>, AllocError>
+    requires few { length names.now < 2 ^ 62 }
+    requires packs { All (λ pack. HaveOneLength (map (λ c. list_of (map plain_piece names.now) lists.now (CellsOf c)) (map column_of pack))) part.now.packs }
+    ensures { IfOk result (λ d. d ≡ lists_difference (length (filter (λ x. not (is_packed (plain_part part.now) x)) (map plain_piece names.now))) (map (λ pack. interleaved_cells (map (λ c. list_of (map plain_piece names.now) lists.now (CellsOf c)) (map column_of pack))) part.now.packs) buffers.now) }
+{
+    let first = own_count(part, names);
+    packs_difference(alloc, part.packs.as_slice(), first, names, lists, buffers)
+}

@@ -1,0 +1,59 @@
+-- What `convert` writes and prints.
+use Rattle.std.specs.Prelude.{ℕ, ℤ, List, [], ◌∷◌, ◌++◌, codes, if◌then◌else◌, Result, Ok}
+use Rattle.std.specs.List.{flat_map}
+use Rattle.std.specs.Fmt.{decimal}
+use Rattle.us_matrix.specs.Map.{Map}
+use Rattle.us_mm.specs.Text.{text}
+use Rattle.us_format.specs.Program.{shape_in, entries_in}
+use Rattle.us_format.specs.Buffers.{buffers}
+use Rattle.us_decl.specs.Declares.{Declared}
+use Rattle.us_judge.specs.Views.{declaration_of}
+use Rattle.us_container.specs.Bytes.{container_bytes}
+use Rattle.us_outside.specs.Files.{Files, content_of}
+use Rattle.us_top.specs.declared.status.Status.{Status}
+use Rattle.us_top.specs.declared.status.Slot.TheVariants as slots
+use Rattle.us_top.specs.Commands.{ends_in_text}
+use Rattle.us_top.specs.Steps.{size_on, then_step, chain_in, input_at, map_of, within_limit}
+
+-- the buffers of a format on a matrix
+abbrev pub buffers_on : Map → Declared → List (List ℤ)
+buffers_on m d = buffers (shape_in m) (declaration_of d) (entries_in m)
+
+-- the container of a matrix in a format
+abbrev pub container_of : Map → Declared → List ℕ
+container_of m d = container_bytes d m.rows m.cols (buffers_on m d)
+
+-- the container in the last of the formats; without one, the canonical text
+abbrev pub last_container : Map → List Declared → List ℕ
+last_container m [] = text m
+last_container m (d ∷ []) = container_of m d
+last_container m (d ∷ e ∷ ds) = last_container m (e ∷ ds)
+
+-- what is stored: the canonical text where the chain ends in it, else the container in its last format
+abbrev pub written : List ℕ → List Declared → Map → List ℕ
+written chain ds m = if ends_in_text chain then text m else last_container m ds
+
+-- the name of a format, a blank, its size on the matrix
+abbrev pub hop_line : Map → Declared → List ℕ
+hop_line m d = d.name ++ (codes " " ++ (decimal (size_on m d) ++ (10 ∷ [])))
+
+-- a line for each hop
+abbrev pub hop_lines : Map → List Declared → List ℕ
+hop_lines m ds = flat_map (hop_line m) ds
+
+-- what is stored, and what is printed
+pub record Made : Type 0 where
+  pub bytes : List ℕ
+  pub lines : List ℕ
+
+-- the lines of the hops, each within the limit
+abbrev pub lines_step : Map → List Declared → Result (List ℕ) Status
+lines_step m ds = then_step (within_limit m 1 ds) (λ _. Ok (hop_lines m ds))
+
+abbrev pub made_step : List ℕ → List Declared → Map → Result Made Status
+made_step chain ds m = then_step (lines_step m ds) (λ lines. Ok (record { bytes = written chain ds m; lines = lines }))
+
+-- what a conversion of these files makes
+unfoldable pub made_in : List ℕ → List ℕ → List ℕ → Files → Result Made Status
+made_in formats input chain fs =
+    then_step (chain_in (content_of fs formats) chain) (λ ds. then_step (input_at slots.Input (content_of fs input)) (λ i. made_step chain ds (map_of i)))
