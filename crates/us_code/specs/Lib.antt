@@ -1,0 +1,10 @@
+pub mod Laws
+pub mod Limits
+pub mod Names
+pub mod Plain
+pub mod Run
+pub mod Runs
+pub mod Sample
+pub mod Sort
+pub mod Typing
+pub mod Unbound

@@ -1,0 +1,11 @@
+pub mod Depends
+pub mod Does
+pub mod Frame
+pub mod Orders
+pub mod Programs
+pub mod Rules
+pub mod Sequence
+pub mod Sorts
+pub mod Sound
+pub mod Typings
+pub mod Unbounds
