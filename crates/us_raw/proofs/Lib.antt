@@ -1,0 +1,17 @@
+pub mod Around
+pub mod Back
+pub mod Changed
+pub mod Fresh
+pub mod Kept
+pub mod Laid
+pub mod Least
+pub mod Lent
+pub mod Pieces
+pub mod Rows
+pub mod Run
+pub mod Sharing
+pub mod Stored
+pub mod Table
+pub mod Tabulate
+pub mod Values
+pub mod Written

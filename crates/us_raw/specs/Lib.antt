@@ -1,0 +1,9 @@
+pub mod BlockLends
+pub mod Layout
+pub mod Lends
+pub mod Ownership
+pub mod Plan
+pub mod Region
+pub mod Rest
+pub mod Widths
+pub mod Window
