@@ -1,0 +1,3 @@
+pub mod EntryCounts
+pub mod Tallies
+pub mod Ranking
