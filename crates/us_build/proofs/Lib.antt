@@ -16,4 +16,4 @@ pub mod Walking
 pub mod PlainParts
 pub mod Sorted
 pub mod Whole
-pub mod Samples
+pub mod Keeping

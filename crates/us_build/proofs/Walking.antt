@@ -1,6 +1,6 @@
 -- The steps of a walk down the levels.
-use Rattle.std.proofs.Common.{◌≡◌, ℕ, ◌+◌, ◌-◌, ◌<◌, ◌≤◌, List, [], ◌∷◌, ◌++◌, map, length, get_or, take, drop, sym, refl, ap, ◌∙◌, subst, arith, ℤ, All, AllPairs}
-use Rattle.std.proofs.lemmas.List.{drop_all, get_or-map, length-drop, length-map, take_at}
+use Rattle.std.proofs.Common.{◌≡◌, ℕ, ◌+◌, ◌-◌, ◌<◌, ◌≤◌, List, [], ◌++◌, map, length, get_or, take, drop, sym, ap, ◌∙◌, subst, arith, All, AllPairs}
+use Rattle.std.proofs.lemmas.List.{get_or-map, length-drop, length-map, take_at}
 use Rattle.us_format.specs.Kinds as plain
 use Rattle.us_format.specs.Buffers.{buffers_at}
 use Rattle.us_format.specs.Packs.{written}

@@ -175,6 +175,7 @@ module _ (exprs : List Expr) (kinds : List Kind) (shape : code.Shape) (ts : List
       let n : length ls ≡ length trees = ap length e ∙ made-long in
       let i : first ≡ 6 - length ls = ap (λ (k : ℕ). 6 - k) (sym n) in
       record {
+        made_are = e;
         count = omega (arith, n, trees-long, b.count);
         sizes = sizes;
         few = omega (arith, length_permutation items ys g, length-map ts (item_over trees made), b.few);

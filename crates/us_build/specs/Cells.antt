@@ -1,5 +1,5 @@
 -- The cells of one level, by the items one level down.
-use Rattle.std.specs.Prelude.{ℕ, List, [], ◌∷◌, All, nat_le, if◌then◌else◌, ◌≡◌}
+use Rattle.std.specs.Prelude.{ℕ, ℤ, List, [], ◌∷◌, length, take, All, nat_le, if◌then◌else◌, ◌≡◌}
 use Rattle.us_format.specs.declared.Kind.{Kind}
 use Rattle.us_format.specs.Positions.{place}
 use Rattle.us_build.specs.declared.items.Item.{Item}
@@ -15,3 +15,7 @@ first_position count x (r ∷ rs) = if nat_le x r.above then r.at else first_pos
 pub record IsBelow (kind : Kind) (size n level : ℕ) (items : List Item) : Type 0 where
   pub ready : IsReady kind size n (rows_above level items)
   pub placed : All (λ x. x.at ≡ place kind size (rows_above level items) (row_above level x)) items
+
+-- the lists that were there before are there now, in front
+abbrev pub BeginsWith : List (List ℤ) → List (List ℤ) → Type 0
+BeginsWith now before = take (length before) now ≡ before

@@ -18,7 +18,7 @@ use Rattle.us_format.specs.Rules.{IsLawful}
 use Rattle.us_build.specs.declared.items.Item.{Item}
 use Rattle.us_build.specs.declared.levels.Level.{Level}
 use Rattle.us_build.specs.Items.{rows_at, rows_first}
-use Rattle.us_build.specs.Levels.{IsSimple}
+use Rattle.us_build.specs.Levels.{IsSimple, levels_over}
 use Rattle.us_build.specs.Ready.{AreReady, size_from}
 use Rattle.us_build.specs.Sizes.{plain_levels}
 
@@ -42,8 +42,9 @@ pub record IsBuildable (exprs : List Expr) (kinds : List Kind) (shape : code.Sha
   pub matrix : IsMatrixOf (plain_shape shape) (plain_entries entries)
   pub few : length entries ≤ limit
 
--- levels and items from which what is to be built follows, level by level
+-- the levels of the expressions, with their low ends, and items from which what is to be built follows, level by level
 pub record AreRowsOf (exprs : List Expr) (ks : List Kind) (shape : code.Shape) (entries : List Triple) (made : List Level) (items : List Item) : Type 0 where
+  pub made_are : made ≡ levels_over (plain_shape shape) (map tree exprs) ks
   pub count : length made ≤ 6
   pub sizes : All (λ l. l.size < 2 ^ 38) made
   pub few : length items ≤ limit

@@ -1,7 +1,7 @@
 -- What is left of a walk down the levels.
 use Rattle.std.specs.Prelude.{ℕ, ◌+◌, ◌-◌, ◌*◌, ◌<◌, ◌≤◌, ◌^◌, List, [], ◌∷◌, length, drop, ◌≡◌, Bool, true, false, ◌&&◌, nat_lt, All}
 use Rattle.us_format.specs.declared.Kind.{Kind}
-use Rattle.us_format.specs.declared.Kind.TheVariants.{Full, Compressed, Listed, Slot}
+use Rattle.us_format.specs.declared.Kind.TheVariants.{Full}
 use Rattle.us_format.specs.Buffers.{buffers_at, level_buffers, piece_buffers}
 use Rattle.us_format.specs.Declaration.{Part}
 use Rattle.us_format.specs.Kinds as plain

@@ -9,7 +9,7 @@ ghost use Rattle.us_format.specs.Packs.{written};
 ghost use Rattle.us_format.specs.Positions.{count_below};
 ghost use Rattle.us_format.specs.Reading.{limit};
 ghost use Rattle.us_build.specs.Items.{rows_at, rows_above};
-ghost use Rattle.us_build.specs.Cells.{first_position, IsBelow};
+ghost use Rattle.us_build.specs.Cells.{first_position, BeginsWith, IsBelow};
 
 use crate::items::Item;
 use crate::levels::Level;
@@ -105,14 +105,15 @@ fn push_numbered(
     requires above { above ≤ limit }
     requires positions { positions ≤ limit }
     requires count { positions ≡ count_below level.now.kind level.now.size above (rows_above index items.now) }
-    ensures { OnOk result (buffers.new ≡ buffers.old ++ map written (buffers_at level.now.kind level.now.size above (rows_above index items.now))) }
+    ensures lists { OnOk result (buffers.new ≡ buffers.old ++ map written (buffers_at level.now.kind level.now.size above (rows_above index items.now))) }
+    ensures kept { BeginsWith buffers.new buffers.old }
 {
     buffers.push(starts(alloc, items, above, positions)?)?;
     buffers.push(coordinates(alloc, items, index, positions)?)
 }
 
 /// Adds the lists of a level that the items have gone down, from `above` positions to `positions`. The level's
-/// coordinates stand at `index`.
+/// coordinates stand at `index`. Fails only where memory is wanting; the lists that were there before stand then too.
 pub fn push_level(
     alloc: Global,
     buffers: &mut Buffers,
@@ -128,7 +129,8 @@ pub fn push_level(
     requires above { above ≤ limit }
     requires positions { positions ≤ limit }
     requires count { positions ≡ count_below level.now.kind level.now.size above (rows_above index items.now) }
-    ensures { OnOk result (buffers.new ≡ buffers.old ++ map written (buffers_at level.now.kind level.now.size above (rows_above index items.now))) }
+    ensures lists { OnOk result (buffers.new ≡ buffers.old ++ map written (buffers_at level.now.kind level.now.size above (rows_above index items.now))) }
+    ensures kept { BeginsWith buffers.new buffers.old }
 {
     match level.kind {
         Kind::Full => Ok(()),

@@ -20,6 +20,3 @@ pub use pieces::{build_pieces, size_of_pieces};
 pub use rows::Rows;
 pub use steps::go_down;
 pub use walk::Walk;
-
-#[cfg(test)]
-mod tests;

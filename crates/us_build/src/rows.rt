@@ -20,7 +20,7 @@ pub struct Rows {
 
 impl Rows {
     /// The entries of a lawful part without queries, which has these level expressions and kinds, above the first
-    /// level.
+    /// level. Fails only where memory is wanting.
     pub fn new(
         alloc: Global,
         levels: &[Expr],

@@ -3,6 +3,7 @@ ghost use Rattle.std.specs.Prelude.{◌≡◌, ◌<◌, ◌++◌, [], map, lengt
 ghost use Rattle.us_format.specs.Declaration.{Part};
 ghost use Rattle.us_format.specs.Packs.{written};
 ghost use Rattle.us_format.specs.Program.{plain_entries, plain_shape};
+ghost use Rattle.us_build.specs.Cells.{BeginsWith};
 ghost use Rattle.us_build.specs.Pieces.{IsBuildable, IsPlain};
 ghost use Rattle.us_format.specs.Buffers.{val_buffer};
 ghost use Rattle.us_build.specs.Ways.{IsStartOf, Way, first_buffers, is_first_long, way_below};
@@ -79,11 +80,13 @@ impl Walk {
         is_too_long(&self.levels[self.done], self.positions)
     }
 
-    /// Goes down one level, which is not too long, and adds its lists. Fails only where memory is wanting.
+    /// Goes down one level, which is not too long, and adds its lists. Fails only where memory is wanting: the walk is one
+    /// level down then too, and the lists that were there before stand.
     pub fn step(&mut self, alloc: Global, lists: &mut Buffers) -> Result<(), AllocError>
         requires left { 0 < length self.old.levels }
         requires short { is_first_long self.old.levels self.old.positions ≡ false }
         ensures lists { OnOk result (lists.new ≡ lists.old ++ map written (first_buffers self.old.levels self.old.positions self.old.rows)) }
+        ensures kept { BeginsWith lists.new lists.old }
         ensures below { self.new ≡ way_below self.old.levels self.old.positions self.old.rows }
     {
         let index = 6 - self.levels.len() + self.done;

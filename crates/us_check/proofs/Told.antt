@@ -5,10 +5,11 @@ use Rattle.us_format.specs.Matrix.{Shape, Entry}
 use Rattle.us_format.specs.Meaning.{Position, collected}
 use Rattle.us_judge.specs.Views.{declaration_of}
 use Rattle.us_decl.specs.Declares.{Declared}
+use Rattle.us_levels.specs.Differences.{difference_of}
 use Rattle.us_check.specs.declared.broken.Broken.{Broken}
 use Rattle.us_check.specs.declared.broken.Broken.TheVariants.{Lengths, TooLarge, Climb, Cell, Long, Memory}
 use Rattle.us_check.specs.declared.held.Held.{Held}
-use Rattle.us_check.specs.Checks.{TellsFault, Tells, compared, difference_of, unless_different}
+use Rattle.us_check.specs.Checks.{TellsFault, Tells, compared, unless_different}
 
 -- the first reason is told, whichever it is
 pub fault-told : (told : Result (List Entry) Broken) (fault : Broken) → told ≡ Err fault → TellsFault told fault

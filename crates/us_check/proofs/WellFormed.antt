@@ -1,5 +1,5 @@
 -- Buffers that check are exactly the buffers of a matrix, within the limit.
-use Rattle.std.specs.Prelude.{nat_le, Result, Ok, Err, is_none}
+use Rattle.std.specs.Prelude.{nat_le, Result, Ok, Err, is_none, OnOk, IfErr}
 use Rattle.std.proofs.Common.{◌≡◌, ℕ, ◌≤◌, List, length, Bool, true, false, cond, not, eqb, min, ℤ, sym, refl, ap, ◌∙◌, subst, arith, Option, Some, None, eqb-true}
 use Rattle.std.proofs.Math.ListN.{length-map}
 use Rattle.std.proofs.lemmas.Bool.{false≢true}
@@ -16,8 +16,13 @@ use Rattle.us_format.proofs.Whole.{buffers-are-counted, buffers-mean-matrix, siz
 use Rattle.us_judge.proofs.LawfulDeclarations.{accepted-declaration}
 use Rattle.us_judge.specs.Views.{declaration_of}
 use Rattle.us_levels.specs.declared.differing.Difference.{Difference}
-use Rattle.us_check.specs.declared.broken.Broken.TheVariants.{Lengths, TooLarge}
-use Rattle.us_check.specs.Checks.{difference_of, unless_different, compared, fitting, checked}
+use Rattle.us_levels.specs.Differences.{difference_of}
+use Rattle.us_check.specs.declared.broken.Broken.{Broken}
+use Rattle.us_check.specs.declared.broken.Broken.TheVariants.{Lengths, TooLarge, Climb, Cell, Long, Memory}
+use Rattle.us_check.specs.declared.held.Held.{Held}
+use Rattle.us_decl.specs.Declares.{Declared}
+use Rattle.us_format.specs.Program.{entries_in}
+use Rattle.us_check.specs.Checks.{unless_different, compared, fitting, checked, TellsFault, TellsChecked, IsWellFormedWithin}
 use Rattle.us_check.specs.Laws.{AreBuffersOf, ChecksWellFormed, ChecksOwn, ChecksAccepted}
 use Rattle.us_check.proofs.Accepted.{accepted-small}
 use Rattle.us_check.proofs.Same.{none-same, same-all}
@@ -138,3 +143,25 @@ checked-misfit s d bufs k h = ap (fitting s d bufs) h
 pub checked-fitting : (s : Shape) (d : Declaration) (bufs : List (List ℤ)) → fits s d bufs ≡ true → size_in s d bufs ≤ limit → checked s d bufs ≡ compared s d bufs (collected s d bufs)
 checked-fitting s d bufs h l =
     ap (fitting s d bufs) (fits-none s d bufs h) ∙ ap (λ (t : Bool). cond t (compared s d bufs (collected s d bufs)) (Err TooLarge)) (test-below (size_in s d bufs) limit l)
+
+-- ---- what an answer says of well-formed buffers
+
+pub told-well-formed : (s : Shape) (x : Declared) (bufs : List (List ℤ)) → IsLawfulDeclaration (declaration_of x) → (r : Result Held Broken) → TellsChecked s x bufs r
+    → OnOk r (IsWellFormedWithin s (declaration_of x) bufs)
+told-well-formed s x bufs law (Ok h) t =
+    let a = checked-is s (declaration_of x) bufs (entries_in h.matrix) law t.0 in ((entries_in h.matrix, a.means, a.built), a.small)
+told-well-formed s x bufs law (Err fault) t = tt
+
+only-memory : (m : List Entry) (told : Result (List Entry) Broken) (fault : Broken) → told ≡ Ok m → TellsFault told fault → fault ≡ Memory
+only-memory m told (Lengths buffer) e h = absurd (let q : Ok m ≡ Err (Lengths buffer) = sym e ∙ h in cc)
+only-memory m told TooLarge e h = absurd (let q : Ok m ≡ Err TooLarge = sym e ∙ h in cc)
+only-memory m told (Climb part x) e h = absurd (let q : Ok m ≡ Err (Climb part x) = sym e ∙ h in cc)
+only-memory m told (Cell buffer x have want) e h = absurd (let q : Ok m ≡ Err (Cell buffer x have want) = sym e ∙ h in cc)
+only-memory m told (Long buffer have want) e h = absurd (let q : Ok m ≡ Err (Long buffer have want) = sym e ∙ h in cc)
+only-memory m told Memory e h = refl
+
+pub told-refused : (s : Shape) (x : Declared) (bufs : List (List ℤ)) → IsLawfulDeclaration (declaration_of x) → (r : Result Held Broken) → TellsChecked s x bufs r
+    → IfErr r (λ fault. IsWellFormedWithin s (declaration_of x) bufs → fault ≡ Memory)
+told-refused s x bufs law (Ok h) t = tt
+told-refused s x bufs law (Err fault) t =
+    λ w. only-memory w.0.0 (checked s (declaration_of x) bufs) fault (is-checked s (declaration_of x) bufs w.0.0 law (record { means = w.0.1; built = w.0.2; small = w.1 })) t

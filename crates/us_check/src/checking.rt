@@ -4,9 +4,10 @@ ghost use Rattle.us_matrix.specs.Map.{IsSide};
 ghost use Rattle.us_format.specs.Meaning.{collected};
 ghost use Rattle.us_format.specs.Program.{plain_shape, shape_in, entries_in};
 ghost use Rattle.us_format.specs.Reading.{limit, fits, size_in};
+ghost use Rattle.us_format.specs.Rules.{IsLawfulDeclaration};
 ghost use Rattle.us_judge.specs.Views.{declaration_of};
-ghost use Rattle.us_check.specs.declared.broken.Broken.TheVariants.{Climb};
-ghost use Rattle.us_check.specs.Checks.{Tells, TellsChecked, TellsFault, checked, compared};
+ghost use Rattle.us_check.specs.declared.broken.Broken.TheVariants.{Climb, Memory};
+ghost use Rattle.us_check.specs.Checks.{IsWellFormedWithin, Tells, TellsChecked, TellsFault, checked, read_back};
 
 use crate::broken::Broken;
 use crate::collecting::matrix_of;
@@ -57,7 +58,7 @@ fn read_matrix(
     requires cols { IsSide shape.cols }
     ensures shape { IfOk result (λ m. shape_in m ≡ plain_shape shape) }
     ensures read { IfOk result (λ m. collected (plain_shape shape) (declaration_of format.now) buffers.now ≡ Ok (entries_in m)) }
-    ensures fault { IfErr result (λ fault. TellsFault (compared (plain_shape shape) (declaration_of format.now) buffers.now (collected (plain_shape shape) (declaration_of format.now) buffers.now)) fault) }
+    ensures fault { IfErr result (λ fault. TellsFault (read_back (plain_shape shape) (declaration_of format.now) buffers.now) fault) }
 {
     let read = read_entries(alloc, format, shape, buffers)?;
     if let Some(index) = first_repeated(alloc, &read.found)? {
@@ -81,19 +82,44 @@ fn check_fitting(
     requires cols { IsSide shape.cols }
     requires fitting { fits (plain_shape shape) (declaration_of format) buffers ≡ true }
     requires within { size_in (plain_shape shape) (declaration_of format) buffers ≤ limit }
-    ensures { Tells (plain_shape shape) format buffers (compared (plain_shape shape) (declaration_of format) buffers (collected (plain_shape shape) (declaration_of format) buffers)) result }
+    ensures { Tells (plain_shape shape) format buffers (read_back (plain_shape shape) (declaration_of format) buffers) result }
 {
     let matrix = read_matrix(alloc, &format, shape, &buffers)?;
     compare(alloc, format, matrix, buffers)
 }
 
-/// The matrix whose buffers in the format these are, held with them; else the first reason why they are not well-formed within the
-/// limit: lengths that don't fit, then the limit, then the first position that has no coordinate of its own, then the first difference.
-pub fn check(alloc: Global, format: Format, shape: Shape, buffers: Buffers) -> Result<Held, Broken>
+// The matrix held with the buffers, or the first reason why they are not well-formed within the limit.
+fn hold_or_refuse(
+    alloc: Global,
+    format: Format,
+    shape: Shape,
+    buffers: Buffers,
+) -> Result<Held, Broken>
     requires rows { IsSide shape.rows }
     requires cols { IsSide shape.cols }
     ensures { TellsChecked (plain_shape shape) format buffers result }
 {
     test_lengths(&format, shape, &buffers)?;
     check_fitting(alloc, format, shape, buffers)
+}
+
+// The declaration of a format is lawful: it is accepted.
+fn is_lawful(format: &Format)
+    ensures { IsLawfulDeclaration (declaration_of format.now) }
+{
+    format.decl();
+}
+
+/// The matrix whose buffers in the format these are, held with them, exactly where they are well-formed within the limit; else the
+/// first reason why they are not: lengths that don't fit, then the limit, then the first position that has no coordinate of its own,
+/// then the first difference.
+pub fn check(alloc: Global, format: Format, shape: Shape, buffers: Buffers) -> Result<Held, Broken>
+    requires rows { IsSide shape.rows }
+    requires cols { IsSide shape.cols }
+    ensures well_formed { OnOk result (IsWellFormedWithin (plain_shape shape) (declaration_of format) buffers) }
+    ensures refused { IfErr result (λ fault. IsWellFormedWithin (plain_shape shape) (declaration_of format) buffers → fault ≡ Memory) }
+    ensures reason { TellsChecked (plain_shape shape) format buffers result }
+{
+    is_lawful(&format);
+    hold_or_refuse(alloc, format, shape, buffers)
 }

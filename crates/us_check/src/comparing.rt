@@ -4,7 +4,8 @@ ghost use Rattle.us_format.specs.Program.{shape_in, entries_in};
 ghost use Rattle.us_format.specs.Meaning.{meaning};
 ghost use Rattle.us_format.specs.Reading.{limit, fits, size_in};
 ghost use Rattle.us_judge.specs.Views.{declaration_of};
-ghost use Rattle.us_check.specs.Checks.{Tells, TellsFault, broken_by, difference_of, unless_different};
+ghost use Rattle.us_levels.specs.Differences.{difference_of};
+ghost use Rattle.us_check.specs.Checks.{Tells, TellsFault, broken_by, compared_matrix};
 
 use crate::broken::Broken;
 use crate::held::Held;
@@ -44,7 +45,8 @@ fn test_alike(
     requires within { size_in (shape_in matrix.now) (declaration_of format.now) buffers.now ≤ limit }
     requires means { meaning (shape_in matrix.now) (declaration_of format.now) buffers.now ≡ Some (entries_in matrix.now) }
     ensures alike { OnOk result (difference_of (shape_in matrix.now) (declaration_of format.now) (entries_in matrix.now) buffers.now ≡ None) }
-    ensures different { IfErr result (λ fault. TellsFault (unless_different (entries_in matrix.now) (difference_of (shape_in matrix.now) (declaration_of format.now) (entries_in matrix.now) buffers.now)) fault) }
+    ensures different { IfErr result (λ fault. let answer = compared_matrix (shape_in matrix.now) (declaration_of format.now) (entries_in matrix.now) buffers.now in
+        TellsFault answer fault) }
 {
     match differs(alloc, format, matrix, buffers)? {
         Some(difference) => Err(broken_by(difference)),
@@ -73,7 +75,7 @@ pub fn compare(
     requires fitting { fits (shape_in matrix) (declaration_of format) buffers ≡ true }
     requires within { size_in (shape_in matrix) (declaration_of format) buffers ≤ limit }
     requires means { meaning (shape_in matrix) (declaration_of format) buffers ≡ Some (entries_in matrix) }
-    ensures { Tells (shape_in matrix) format buffers (unless_different (entries_in matrix) (difference_of (shape_in matrix) (declaration_of format) (entries_in matrix) buffers)) result }
+    ensures { Tells (shape_in matrix) format buffers (compared_matrix (shape_in matrix) (declaration_of format) (entries_in matrix) buffers) result }
 {
     test_alike(alloc, &format, &matrix, &buffers)?;
     Ok(hold(format, matrix, buffers))

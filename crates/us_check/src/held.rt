@@ -38,7 +38,8 @@ impl Model for Held {
 
 // The format's buffers of a matrix mean the matrix: the declaration is accepted, and the matrix is in order.
 fn mean_the_matrix(format: &Format, matrix: &Matrix)
-    ensures { meaning (shape_in matrix.now) (declaration_of format.now) (buffers_of (shape_in matrix.now) (declaration_of format.now) (entries_in matrix.now)) ≡ Some (entries_in matrix.now) }
+    ensures { let built = buffers_of (shape_in matrix.now) (declaration_of format.now) (entries_in matrix.now) in
+        meaning (shape_in matrix.now) (declaration_of format.now) built ≡ Some (entries_in matrix.now) }
 {
     format.decl();
     matrix.shape();

@@ -13,6 +13,3 @@ pub use broken::Broken;
 pub use checking::check;
 pub use held::Held;
 pub use laws::checked_buffers_are_well_formed;
-
-#[cfg(test)]
-mod tests;

@@ -2,22 +2,16 @@
 use Rattle.std.proofs.Common.{◌≡◌, ◌+◌, List, [], ◌∷◌, length, sym, ap, subst, ◌∙◌, arith, zero-add}
 use Rattle.std.specs.List.{sum_by}
 use Rattle.std.specs.Prelude.{None}
-use Rattle.us_format.specs.Declaration.{Part, Declaration}
+use Rattle.us_format.specs.Declaration.{Part}
 use Rattle.us_format.specs.Reading.{buffer_count, pack_place, total_count}
 use Rattle.us_decl.specs.Declares.{Declared, IsValid}
-use Rattle.us_decl.specs.declared.decl.Decl.{Decl}
-use Rattle.us_decl.specs.declared.decl.Part as held
-use Rattle.us_decl.specs.Views.{decl_view}
 use Rattle.us_judge.specs.Acceptance.{first_refusal}
 use Rattle.us_judge.specs.Format.{part_at}
 use Rattle.us_judge.specs.Short.{IsShort, AreShort}
-use Rattle.us_judge.specs.Views.{declaration_of, plain_part, plain_body}
-use Rattle.us_judge.proofs.Valid.{short-valid, plain-is}
+use Rattle.us_judge.specs.Views.{declaration_of}
+use Rattle.us_judge.proofs.Valid.{short-valid}
 use Rattle.us_climb.specs.Own.{IsUndivided, IsPartOf}
 use Rattle.us_climb.proofs.OnePart.{undivided}
-
-pub part-same : (d : Decl) (declared : Declared) (p : held.Part) → decl_view d ≡ declared → plain_part p ≡ part_at (plain_body d.body) 0 → plain_part p ≡ part_at (declaration_of declared) 0
-part-same d declared p is part = part ∙ ap (λ (x : Declaration). part_at x 0) (sym (plain-is d) ∙ ap declaration_of is)
 
 first_short : (p : Part) (ps : List Part) → ps ≡ p ∷ [] → AreShort ps → IsShort p
 first_short p ps e h = let k : AreShort (p ∷ []) = subst AreShort e h in k.0

@@ -9,6 +9,7 @@ ghost use Rattle.us_climb.specs.Parents.{AreParents, IsTable, entry, none, numbe
 
 use crate::cells::{column_cell, list_at};
 use crate::layout::LevelLayout;
+use crate::parents::parent_in;
 use arrayvec::ArrayVec;
 use us_format::Kind;
 use us_matrix::Buffers;
@@ -58,20 +59,6 @@ fn parent_in_turn(starts: &[i64], x: usize) -> Option<usize>
     None
 }
 
-/// The parent that a table has for a position, if the position is in the table.
-fn parent_in(table: &[usize], x: usize) -> Option<Option<usize>>
-    ensures inside { IfSome result (λ p. number p ≡ entry table.now x) }
-    ensures small { IfSome result (λ p. IfSome p (λ parent. parent < none)) }
-    ensures within { IfSome result (λ _. x < length table.now) }
-{
-    let parent = *table.get(x)?;
-    Some(if parent == usize::MAX {
-        None
-    } else {
-        Some(parent)
-    })
-}
-
 /// The first parent of a position, by the table where it has the position.
 fn parent_of(starts: &[i64], table: &[usize], x: usize) -> Option<usize>
     requires { IsTable starts.now table.now }
@@ -102,7 +89,8 @@ fn full_up(size: u64, x: usize) -> Option<Above>
 fn stored_up(level: &LevelLayout, table: &[usize], buffers: &Buffers, x: usize) -> Option<Above>
     requires inside { IsInside level.now.cells }
     requires table { IsTable (nth buffers.now level.now.starts) table.now }
-    ensures { result ≡ then_do (up Compressed level.now.size (nth buffers.now level.now.starts ∷ cells_at level.now.cells buffers.now ∷ []) x) (λ u. Some (record { position = u.0; coordinate = pos u.1 })) }
+    ensures { result ≡ then_do (up Compressed level.now.size (nth buffers.now level.now.starts ∷ cells_at level.now.cells buffers.now ∷ []) x)
+        (λ u. Some (record { position = u.0; coordinate = pos u.1 })) }
 {
     let coordinate = as_coordinate(level.size, column_cell(&level.cells, buffers, x))?;
     let position = parent_of(list_at(buffers, level.starts), table, x)?;
@@ -115,7 +103,8 @@ fn stored_up(level: &LevelLayout, table: &[usize], buffers: &Buffers, x: usize) 
 /// One level up from a position of a slot level.
 fn slot_up(level: &LevelLayout, buffers: &Buffers, x: usize) -> Option<Above>
     requires { IsInside level.now.cells }
-    ensures { result ≡ then_do (up Slot level.now.size (cells_at level.now.cells buffers.now ∷ []) x) (λ u. Some (record { position = u.0; coordinate = pos u.1 })) }
+    ensures { result ≡ then_do (up Slot level.now.size (cells_at level.now.cells buffers.now ∷ []) x)
+        (λ u. Some (record { position = u.0; coordinate = pos u.1 })) }
 {
     let coordinate = as_coordinate(level.size, column_cell(&level.cells, buffers, x))?;
     Some(Above {

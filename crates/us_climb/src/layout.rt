@@ -3,24 +3,23 @@ ghost use Rattle.std.specs.Prelude.{◌≡◌, ◌+◌, ◌<◌, ◌≤◌, ◌^
 ghost use Rattle.us_expr.specs.Range.{IsNear};
 ghost use Rattle.us_format.specs.Program.{plain_shape};
 ghost use Rattle.us_format.specs.Declaration.{LevelColumn, ValueColumn};
-ghost use Rattle.us_expr.specs.Tree.{RowIndex};
-ghost use Rattle.us_format.specs.Coordinates.{level_range, span as span_of};
+ghost use Rattle.us_format.specs.Coordinates.{span as span_of};
 ghost use Rattle.us_format.specs.Packs.{CellsOf, PosOf, level_pieces, is_packed, own_pieces};
 ghost use Rattle.us_format.specs.Reading.{own_place, pack_place};
 ghost use Rattle.us_judge.specs.Buffers.{is_own};
-ghost use Rattle.us_judge.specs.Format.{part_at};
+ghost use Rattle.us_judge.specs.Format.{part_at, range_at};
 ghost use Rattle.us_judge.specs.Short.{IsShort};
 ghost use Rattle.us_judge.specs.Views.{column_of, plain_part, plain_body, declaration_of};
 ghost use Rattle.us_matrix.specs.Map.{IsSide};
 ghost use Rattle.us_climb.specs.Layout.{place_in, level_layout, IsLayout};
 ghost use Rattle.us_climb.specs.Own.{AreOwnFrom, IsAccepted, IsPartOf, IsUndivided};
 
-use crate::packs::{begins_some, column_in, is_packed, pack_with};
+use crate::packs::{begins_some, column_in, pack_with};
 use arrayvec::ArrayVec;
-use us_decl::{Body, Column, Part};
+use us_decl::{Column, Part};
 use us_expr::Range;
 use us_format::Kind;
-use us_judge::Format;
+use us_judge::{Format, own_of_level};
 use us_matrix::Shape;
 
 /// Where the cells of a column stand: cell `x` is cell `x * columns + column` of the buffer.
@@ -119,27 +118,6 @@ fn span(range: Range) -> u64
     if count < 0 { 0 } else { count.unsigned_abs() }
 }
 
-/// How many buffers of its own a column has: one, unless it is in a pack.
-fn own_cells(part: &Part, column: Column) -> usize
-    ensures count { result ≡ length (filter (is_own (plain_part part.now)) (CellsOf (column_of column) ∷ [])) }
-    ensures few { result ≤ 1 }
-{
-    if is_packed(part, column) { 0 } else { 1 }
-}
-
-/// How many buffers of its own a level has.
-fn own_of_level(part: &Part, kind: Kind, level: usize) -> usize
-    requires { level ≤ 16 }
-    ensures count { result ≡ length (filter (is_own (plain_part part.now)) (level_pieces level kind)) }
-    ensures few { result ≤ 2 }
-{
-    match kind {
-        Kind::Full => 0,
-        Kind::Compressed | Kind::Listed => 1 + own_cells(part, Column::Level(level as u32)),
-        Kind::Slot => own_cells(part, Column::Level(level as u32)),
-    }
-}
-
 /// The layout of a level of this kind and size. `own` is the number of the next buffer that no pack has.
 fn level_layout(
     part: &Part,
@@ -183,14 +161,13 @@ fn level_layout(
 /// How many coordinates a level of a format's part has.
 fn level_size(format: &Format, level: usize, shape: Shape) -> u64
     requires accepted { IsAccepted format.now }
-    requires part { 0 < length (declaration_of format.now).parts }
     requires level { level < length (part_at (declaration_of format.now) 0).levels }
     requires rows { shape.rows < 2 ^ 31 }
     requires cols { shape.cols < 2 ^ 31 }
-    ensures value { result ≡ span_of (level_range (plain_shape shape) (map (λ q. 0) (part_at (declaration_of format.now) 0).queries) (part_at (declaration_of format.now) 0) (slice_index_or (part_at (declaration_of format.now) 0).levels level RowIndex)) }
+    ensures value { result ≡ span_of (range_at (plain_shape shape) (declaration_of format.now) 0 level) }
     ensures narrow { result < 2 ^ 63 }
 {
-    span(format.level_range(0, level, shape.rows, shape.cols))
+    span(format.level_range(1, level, shape.rows, shape.cols))
 }
 
 /// The layout of a format's part, the packs of which have the buffers from this number on.
@@ -205,23 +182,13 @@ fn layout_of(format: &Format, part: &Part, shape: Shape, first_pack: usize) -> L
     let mut levels = ArrayVec::new();
     let mut own = 0;
     for level in 0..part.levels.len() {
-        let kind = format.kind(0, level);
+        let kind = format.kind(1, level);
         let size = level_size(format, level, shape);
         levels.push(level_layout(part, level, size, kind, own, first_pack));
         own += own_of_level(part, kind, level);
     }
     let values = column_place(part, first_pack, own, Column::Val);
     Layout { levels, values }
-}
-
-/// The part of an undivided body.
-pub fn part_of(body: &Body) -> &Part
-    ensures { plain_part result.now ≡ part_at (plain_body body.now) 0 }
-{
-    match body {
-        Body::One(part) => part,
-        Body::Two { first, .. } => first,
-    }
 }
 
 impl Layout {
@@ -232,7 +199,7 @@ impl Layout {
         ensures laid { IsLayout (plain_shape shape) (part_at (declaration_of format.now) 0) result }
         ensures undivided { IsUndivided (declaration_of format.now) }
     {
-        let part = part_of(&format.decl().body);
+        let part = format.part(1);
         let first_pack = format.buffers() - part.packs.len();
         layout_of(format, part, shape, first_pack)
     }

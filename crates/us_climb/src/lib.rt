@@ -16,6 +16,3 @@ mod reading;
 pub use found::{Found, Position, ReadEntries};
 pub use lengths::{is_within_limit, misfit};
 pub use reading::{climb, read_entries};
-
-#[cfg(test)]
-mod tests;

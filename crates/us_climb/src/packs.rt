@@ -48,19 +48,6 @@ pub fn begins_some(part: &Part, column: Column) -> bool
     begins_one_of(part.packs.as_slice(), column)
 }
 
-fn is_in_one_of(packs: &[Pack], column: Column) -> bool
-    ensures { result ≡ list_any (λ pack. list_any (λ b. same_column (column_of column) (column_of b)) pack) packs.now }
-{
-    packs.iter().any(|pack| has_column(pack, column))
-}
-
-/// Whether some pack of a part has a column.
-pub fn is_packed(part: &Part, column: Column) -> bool
-    ensures { result ≡ is_packed (plain_part part.now) (CellsOf (column_of column)) }
-{
-    is_in_one_of(part.packs.as_slice(), column)
-}
-
 fn first_with(packs: &[Pack], column: Column) -> Option<usize>
     ensures { result ≡ position (λ pack. list_any (λ b. same_column (column_of column) (column_of b)) pack) packs.now }
 {

@@ -1,5 +1,5 @@
 //! Tables of the first parents of a level's positions, made in one pass over the level's starts.
-ghost use Rattle.std.specs.Prelude.{◌≡◌, ◌<◌, ◌≤◌, ◌-◌, ◌+◌, ℕ, length, MatchOption, IfOk};
+ghost use Rattle.std.specs.Prelude.{◌≡◌, ◌<◌, ◌≤◌, ℕ, length, IfOk, IfSome};
 ghost use Rattle.std.specs.List.{range_with_len};
 ghost use Rattle.std.proofs.Common.{replicate};
 ghost use Rattle.us_format.specs.Climb.{parent_of};
@@ -19,6 +19,16 @@ use us_matrix::{Buffers, Shape};
 
 /// The number that stands for no parent in a table.
 const NONE: usize = usize::MAX;
+
+/// The parent that a table has for a position, if the position is in the table.
+pub fn parent_in(table: &[usize], x: usize) -> Option<Option<usize>>
+    ensures inside { IfSome result (λ p. number p ≡ entry table.now x) }
+    ensures small { IfSome result (λ p. IfSome p (λ parent. parent < none)) }
+    ensures within { IfSome result (λ _. x < length table.now) }
+{
+    let parent = *table.get(x)?;
+    Some(if parent == NONE { None } else { Some(parent) })
+}
 
 /// The place among so many positions of the start with this number.
 fn place_of(count: usize, starts: &[i64], number: usize) -> usize

@@ -6,9 +6,9 @@ ghost use Rattle.us_judge.specs.Format.{part_at};
 ghost use Rattle.us_judge.specs.Views.{declaration_of, plain_part};
 ghost use Rattle.us_matrix.specs.Map.{IsSide};
 ghost use Rattle.us_climb.specs.Parents.{AreKnown, tables_in};
-ghost use Rattle.us_climb.specs.Readers.{IsReader};
+ghost use Rattle.us_climb.specs.Readers.{IsReaderOf};
 
-use crate::layout::{Layout, part_of};
+use crate::layout::Layout;
 use arrayvec::ArrayVec;
 use us_decl::Part;
 use us_expr::{Range, VarRanges};
@@ -63,14 +63,14 @@ impl<'a> Reader<'a> {
         ensures format { result.format.now ≡ format.now }
         ensures shape { result.shape ≡ shape }
         ensures buffers { result.tables.buffers.now ≡ buffers.now }
-        ensures ready { IsReader (plain_shape shape) (declaration_of format.now) buffers.now result.plan.now result.layout (tables_in result.parents.now) result.ranges.shape_rows result.ranges.shape_cols result.ranges.vars.items result.tables.at.items result.tables.extents.items }
+        ensures ready { IsReaderOf (plain_shape shape) (declaration_of format.now) buffers.now result }
     {
         let layout = Layout::of(format, shape);
-        let part = part_of(&format.decl().body);
+        let part = format.part(1);
         Reader {
             format,
             shape,
-            plan: format.plan(0),
+            plan: format.plan(1),
             layout,
             parents,
             ranges: ranges_of(part, shape),

@@ -1,17 +1,13 @@
 //! The coordinate of a position, and all entries.
-ghost use Rattle.std.specs.Prelude.{◌≡◌, ◌<◌, ℤ, pos, [], length, Some, None, All, MatchOption, IfSome, IfOk, FitsSigned};
+ghost use Rattle.std.specs.Prelude.{◌≡◌, ◌≤◌, ◌-◌, ℤ, pos, [], length, Some, None, All, MatchOption, IfSome, IfOk, FitsSigned};
 ghost use Rattle.std.proofs.Common.{w64};
-ghost use Rattle.us_format.specs.Lists.{then_do, cell};
+ghost use Rattle.us_format.specs.Lists.{then_do};
 ghost use Rattle.us_format.specs.Matrix.{is_zero, in_shape};
 ghost use Rattle.us_format.specs.Program.{plain_shape, plain_entry};
-ghost use Rattle.us_format.specs.Recover.{recovered};
 ghost use Rattle.us_invert.specs.Recovery.{cell_of};
-ghost use Rattle.us_judge.specs.Format.{part_at};
 ghost use Rattle.us_judge.specs.Views.{declaration_of};
 ghost use Rattle.us_matrix.specs.Map.{IsSide};
-ghost use Rattle.us_climb.specs.Layout.{cells_at, climb_by};
-ghost use Rattle.us_climb.specs.Parents.{tables_in};
-ghost use Rattle.us_climb.specs.Readers.{IsReader};
+ghost use Rattle.us_climb.specs.Readers.{IsReady, entry_at, indices_at, value_of};
 ghost use Rattle.us_climb.specs.Entries.{entry_in, entry_of, value_at, read_all, plain_position, plain_read};
 
 use crate::cells::{column_cell, column_len};
@@ -33,8 +29,8 @@ fn recovered_at(
     values: &mut ArrayVec<i64, 6>,
     kept: &mut ArrayVec<i64, 706>,
 ) -> Option<Cell>
-    requires { IsReader (plain_shape reader.now.shape) (declaration_of reader.now.format.now) reader.now.tables.buffers.now reader.now.plan.now reader.now.layout (tables_in reader.now.parents.now) reader.now.ranges.shape_rows reader.now.ranges.shape_cols reader.now.ranges.vars.items reader.now.tables.at.items reader.now.tables.extents.items }
-    ensures { cell_of result ≡ then_do (climb_by reader.now.layout.levels.items reader.now.tables.buffers.now x) (λ up. recovered (plain_shape reader.now.shape) (part_at (declaration_of reader.now.format.now) 0) (record { coords = up.1; extents = []; tables = [] })) }
+    requires { IsReady reader.now }
+    ensures { cell_of result ≡ indices_at reader.now x }
 {
     let levels = reader.layout.levels.as_slice();
     climb_from(levels, reader.parents, reader.tables.buffers, x, values)?;
@@ -61,8 +57,8 @@ fn cell_at(
     values: &mut ArrayVec<i64, 6>,
     kept: &mut ArrayVec<i64, 706>,
 ) -> Option<Cell>
-    requires { IsReader (plain_shape reader.now.shape) (declaration_of reader.now.format.now) reader.now.tables.buffers.now reader.now.plan.now reader.now.layout (tables_in reader.now.parents.now) reader.now.ranges.shape_rows reader.now.ranges.shape_cols reader.now.ranges.vars.items reader.now.tables.at.items reader.now.tables.extents.items }
-    ensures { entry_in (plain_shape reader.now.shape) (declaration_of reader.now.format.now) reader.now.tables.buffers.now (0, x) ≡ entry_of result (cell (cells_at reader.now.layout.values reader.now.tables.buffers.now) x) }
+    requires { IsReady reader.now }
+    ensures { entry_at reader.now x ≡ entry_of result (value_of reader.now x) }
 {
     match recovered_at(reader, x, values, kept) {
         Some(cell) => inside(reader.shape, cell),
@@ -84,9 +80,9 @@ fn found_at(
     values: &mut ArrayVec<i64, 6>,
     kept: &mut ArrayVec<i64, 706>,
 ) -> Option<Found>
-    requires reader { IsReader (plain_shape reader.now.shape) (declaration_of reader.now.format.now) reader.now.tables.buffers.now reader.now.plan.now reader.now.layout (tables_in reader.now.parents.now) reader.now.ranges.shape_rows reader.now.ranges.shape_cols reader.now.ranges.vars.items reader.now.tables.at.items reader.now.tables.extents.items }
-    requires value { v ≡ cell (cells_at reader.now.layout.values reader.now.tables.buffers.now) x }
-    ensures entry { MatchOption result (entry_in (plain_shape reader.now.shape) (declaration_of reader.now.format.now) reader.now.tables.buffers.now (0, x) ≡ None) (λ f. entry_in (plain_shape reader.now.shape) (declaration_of reader.now.format.now) reader.now.tables.buffers.now (0, x) ≡ Some (plain_entry f.triple)) }
+    requires reader { IsReady reader.now }
+    requires value { v ≡ value_of reader.now x }
+    ensures entry { MatchOption result (entry_at reader.now x ≡ None) (λ f. entry_at reader.now x ≡ Some (plain_entry f.triple)) }
     ensures position { IfSome result (λ f. plain_position f.position ≡ (0, x)) }
     ensures value { IfSome result (λ f. f.triple.v ≡ v) }
 {
@@ -138,8 +134,8 @@ pub fn read_entries(
     })
 }
 
-/// The coordinate of a position after the last level of a part, both counted from 0. It is none exactly where the climb or the
-/// recovery fails, or the coordinate is out of the shape.
+/// The coordinate of a position after the last level of a part; the parts are counted from 1, the positions from 0. It is none
+/// exactly where the climb or the recovery fails, or the coordinate is out of the shape.
 pub fn climb(
     format: &Format,
     shape: Shape,
@@ -149,8 +145,10 @@ pub fn climb(
 ) -> Option<Cell>
     requires rows { IsSide shape.rows }
     requires cols { IsSide shape.cols }
-    requires part { part < length (declaration_of format.now).parts }
-    ensures { entry_in (plain_shape shape) (declaration_of format.now) buffers.now (part, x) ≡ entry_of result (value_at (plain_shape shape) (declaration_of format.now) buffers.now (part, x)) }
+    requires from_one { 1 ≤ part }
+    requires part { part ≤ length (declaration_of format.now).parts }
+    ensures { entry_in (plain_shape shape) (declaration_of format.now) buffers.now (part - 1, x)
+        ≡ entry_of result (value_at (plain_shape shape) (declaration_of format.now) buffers.now (part - 1, x)) }
 {
     let reader = Reader::of(format, shape, buffers, &[]);
     let mut values = ArrayVec::new();

@@ -2,10 +2,10 @@
 use Rattle.std.proofs.Common.{◌≡◌, ℕ, ◌-◌, List, length, drop, sym, ap, ap₂, subst, ◌∙◌, arith}
 use Rattle.std.specs.Prelude.{Result, Ok}
 use Rattle.us_decl.specs.declared.decl.Decl.{Decl}
-use Rattle.us_decl.specs.declared.parsed.OneDecl.{OneDecl}
+use Rattle.us_parse.specs.declared.parsed.OneDecl.{OneDecl}
 use Rattle.us_decl.specs.Declares.{Declared}
 use Rattle.us_decl.specs.Views.{decl_view}
-use Rattle.us_decl.specs.Parses.{tokens_of, ParsesOne, TellsOne}
+use Rattle.us_parse.specs.Parses.{tokens_of, ParsesOne, TellsOne}
 use Rattle.us_container.specs.declared.text.TextFault.{TextFault}
 use Rattle.us_container.specs.Text.{declaration_in, by_answer, if_alone}
 use Rattle.us_container.specs.Answers.{TellsText}

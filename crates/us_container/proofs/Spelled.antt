@@ -18,10 +18,10 @@ use Rattle.us_tokens.specs.Text.{Text}
 use Rattle.us_tokens.specs.Reading.{Answer, Read, Whole, NoToken, Form, Broken, scan}
 use Rattle.us_decl.specs.declared.lexeme.Lexeme.{Lexeme}
 use Rattle.us_decl.specs.Grammar.{Decl}
-use Rattle.us_decl.specs.Within.{Break}
-use Rattle.us_decl.specs.Piece.{AtFormat}
-use Rattle.us_decl.specs.Machine.{reader}
-use Rattle.us_decl.specs.Parses.{tokens_of}
+use Rattle.us_parse.specs.Within.{Break}
+use Rattle.us_parse.specs.Piece.{AtFormat}
+use Rattle.us_parse.specs.Machine.{reader}
+use Rattle.us_parse.specs.Parses.{tokens_of}
 use Rattle.us_decl.specs.Declares.{Declared, declared}
 use Rattle.us_print.specs.Canon.{decl_text}
 use Rattle.us_container.specs.declared.fault.ContainerFault.{ContainerFault}

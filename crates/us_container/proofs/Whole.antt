@@ -12,7 +12,7 @@ use Rattle.us_judge.specs.Views.{declaration_of}
 use Rattle.us_check.specs.Checks.{checked}
 use Rattle.us_container.specs.Bytes.{magic, number_bytes, text_bytes, buffer_bytes, container_bytes}
 use Rattle.us_container.specs.Contained.{Contained, number, buffers, right_count, at_end, well_formed, buffers_in, with_magic, version, declaration, accepted, side, contained_in}
-use Rattle.us_container.proofs.Chain.{what, when_checked, behind_buffers, when_counted, behind_count, behind_rows, when_accepted, behind_text, behind_version, behind_magic}
+use Rattle.us_container.proofs.Chain.{what, when_checked, behind_buffers, when_counted, behind_count, behind_rows, when_accepted, when_declared, behind_version, behind_magic}
 use Rattle.us_container.proofs.Spelled.{AreBytes, undo, number_spelled, buffers_spelled, magic_spelled, version_spelled, declaration_spelled, side_spelled, end_spelled}
 
 record Ends (d : Declared) (s : Shape) (rest : List ℕ) (c : Contained) : Type 0 where
@@ -53,7 +53,7 @@ only_spelling bytes c b h =
     let body : List ℕ = u1.0 in
     let u2 = undo (version len body) (behind_version bytes) c u1.2 in
     let rest : List ℕ = u2.0 in
-    let u3 = undo (declaration len rest) (behind_text bytes) c u2.2 in
+    let u3 = undo (declaration len rest) (when_declared bytes) c u2.2 in
     let d : Declared = u3.0.0 in
     let sides : List ℕ = u3.0.1 in
     let u4 = undo (accepted (first_refusal (declaration_of d))) (λ _. when_accepted bytes d sides) c u3.2 in

@@ -20,9 +20,9 @@ use Rattle.us_tokens.specs.Text as text
 use Rattle.us_tokens.specs.Reading.{scan}
 use Rattle.us_tokens.specs.Lex.{lexed, Between}
 use Rattle.us_decl.specs.Words.{language}
-use Rattle.us_decl.specs.Piece.{AtFormat}
-use Rattle.us_decl.specs.Machine.{reader}
-use Rattle.us_decl.specs.Parses.{tokens_of}
+use Rattle.us_parse.specs.Piece.{AtFormat}
+use Rattle.us_parse.specs.Machine.{reader}
+use Rattle.us_parse.specs.Parses.{tokens_of}
 use Rattle.us_decl.specs.Declares.{Declared, IsValid}
 use Rattle.us_print.specs.Canon.{decl_text, open_text}
 use Rattle.us_print.specs.ReadBack.{IsReadBack}
@@ -35,7 +35,7 @@ use Rattle.us_container.specs.Bytes.{magic, number_bytes, cell_bytes, buffer_byt
 use Rattle.us_container.specs.Text.{first_difference, if_canonical, if_alone, by_answer, declaration_in}
 use Rattle.us_container.specs.Contained.{◌>>=◌, field, number, cells_of, cells, buffer, buffers, begins, with_magic, version, declaration_at, declaration, accepted, side, right_count, well_formed, buffers_in, contained_in}
 use Rattle.us_container.specs.Laws.{IsWritable}
-use Rattle.us_container.proofs.Chain.{when_checked, behind_buffers, when_counted, behind_count, behind_rows, when_accepted, behind_text, behind_version, behind_magic}
+use Rattle.us_container.proofs.Chain.{when_checked, behind_buffers, when_counted, behind_count, behind_rows, when_accepted, when_declared, behind_version, behind_magic}
 use Rattle.us_container.proofs.CellsRead.{cell, shown, cells_read}
 use Rattle.us_container.proofs.Lengths.{length_number, length_cells}
 
@@ -177,7 +177,7 @@ reads_back d s bufs w short few =
     let len : ℕ = length bytes in
     ap (λ x. x >>= behind_magic bytes) (magic_read (1 ∷ rest))
     ∙ ap (λ x. x >>= behind_version bytes) (version_read len rest)
-    ∙ ap (λ x. x >>= behind_text bytes) (declaration_read len d sides w.valid short)
+    ∙ ap (λ x. x >>= when_declared bytes) (declaration_read len d sides w.valid short)
     ∙ ap (λ x. accepted x >>= λ _. when_accepted bytes d sides) w.accepted
     ∙ ap (λ x. x >>= behind_rows bytes d) (side_read len s.rows behind w.rows)
     ∙ ap (λ x. x >>= λ cols. buffers_in len d (record { rows = s.rows; cols = cols.0 }) cols.1) (side_read len s.cols tail w.cols)

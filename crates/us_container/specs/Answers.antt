@@ -2,8 +2,8 @@
 use Rattle.std.specs.Prelude.{◌≡◌, ◌≤◌, ℕ, Result, Ok, Err}
 use Rattle.us_decl.specs.Declares.{Declared}
 use Rattle.us_decl.specs.declared.decl.Decl.{Decl}
-use Rattle.us_decl.specs.declared.parsed.DeclFault.{DeclFault}
-use Rattle.us_decl.specs.declared.parsed.DeclFault.TheVariants as parsing
+use Rattle.us_parse.specs.declared.parsed.DeclFault.{DeclFault}
+use Rattle.us_parse.specs.declared.parsed.DeclFault.TheVariants as parsing
 use Rattle.us_decl.specs.Views.{decl_view}
 use Rattle.us_container.specs.declared.fault.ContainerFault.{ContainerFault}
 use Rattle.us_container.specs.declared.fault.ContainerFault.TheVariants.{Memory}
@@ -25,6 +25,12 @@ abbrev pub TellsText : ℕ → Result Declared ℕ → Result Decl TextFault →
 TellsText len plain (Ok d) = plain ≡ Ok (decl_view d)
 TellsText len plain (Err (text.Place at)) = (plain ≡ Err at) × (at ≤ len)
 TellsText len plain (Err text.Memory) = Unit {0}
+
+-- the same of a test of a declaration that is at hand
+abbrev pub TellsOf : {A : Type 0} → ℕ → Declared → Result Declared ℕ → Result A TextFault → Type 0
+TellsOf len d plain (Ok done) = plain ≡ Ok d
+TellsOf len d plain (Err (text.Place at)) = (plain ≡ Err at) × (at ≤ len)
+TellsOf len d plain (Err text.Memory) = Unit {0}
 
 -- a fault of reading a declaration, as one of a text
 abbrev pub text_fault : DeclFault → TextFault

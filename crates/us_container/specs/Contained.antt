@@ -90,6 +90,10 @@ accepted (Some r) = Err (Refused r)
 abbrev pub side : ℕ → List ℕ → Result (ℕ × List ℕ) ContainerFault
 side len rest = number len rest >>= λ n. if nat_le 1 n.0 && nat_le n.0 2147483647 then Ok n else Err fault.Shape
 
+-- rows and columns
+abbrev pub shape_at : ℕ → List ℕ → Result (Shape × List ℕ) ContainerFault
+shape_at len rest = side len rest >>= λ rows. side len rows.1 >>= λ cols. Ok (record { rows = rows.0; cols = cols.0 }, cols.1)
+
 -- the number of buffers is that of the format; else the lower of the two is named
 abbrev pub right_count : ℕ → ℕ → Result (Unit {0}) ContainerFault
 right_count count wanted = if nat_eq count wanted then Ok tt else Err (Lengths (min count wanted))
@@ -114,14 +118,29 @@ well_formed (Err why) = Err (fault_of why)
 
 -- ---- the container
 
+-- as many buffers as are wanted, and nothing behind them
+abbrev pub all_buffers : ℕ → ℕ → List ℕ → Result (List (List ℤ)) ContainerFault
+all_buffers len wanted rest =
+    number len rest >>= λ count.
+    right_count count.0 wanted >>= λ _.
+    buffers len count.0 [] count.1 >>= λ bufs.
+    at_end len bufs.1 >>= λ _. Ok bufs.0
+
+-- what well-formed buffers hold
+abbrev pub held_in : Declared → Shape → List (List ℤ) → Result Contained ContainerFault
+held_in d s bufs = well_formed (checked s (declaration_of d) bufs) >>= λ m. Ok (record { declared = d; shape = s; buffers = bufs; entries = m })
+
 -- the buffers, and that they are well-formed
 abbrev pub buffers_in : ℕ → Declared → Shape → List ℕ → Result Contained ContainerFault
 buffers_in len d s rest =
     number len rest >>= λ count.
     right_count count.0 (total_count (declaration_of d)) >>= λ _.
     buffers len count.0 [] count.1 >>= λ bufs.
-    at_end len bufs.1 >>= λ _.
-    well_formed (checked s (declaration_of d) bufs.0) >>= λ m. Ok (record { declared = d; shape = s; buffers = bufs.0; entries = m })
+    at_end len bufs.1 >>= λ _. held_in d s bufs.0
+
+-- the shape and the buffers of a declaration
+abbrev pub behind_text : ℕ → Declared → List ℕ → Result Contained ContainerFault
+behind_text len d rest = side len rest >>= λ rows. side len rows.1 >>= λ cols. buffers_in len d (record { rows = rows.0; cols = cols.0 }) cols.1
 
 -- the fields in order, each tested as soon as it is there
 abbrev pub contained_in : List ℕ → Result Contained ContainerFault
@@ -131,9 +150,7 @@ contained_in bytes =
     version len body >>= λ rest.
     declaration len rest >>= λ d.
     accepted (first_refusal (declaration_of d.0)) >>= λ _.
-    side len d.1 >>= λ rows.
-    side len rows.1 >>= λ cols.
-    buffers_in len d.0 (record { rows = rows.0; cols = cols.0 }) cols.1
+    behind_text len d.0 d.1
 
 -- a held matrix is what the container holds
 pub record IsContained (h : Held) (c : Contained) : Type 0 where

@@ -12,9 +12,9 @@ use us_judge::Refusal;
 pub enum ContainerFault {
     /// The file has fewer than seven bytes, or doesn't begin with `USPARSE`.
     Magic,
-    /// The version byte isn't 1.
+    /// The version byte is `n`, and isn't 1.
     Version {
-        version: u8,
+        n: u64,
     },
     /// The file ends in or before the field that begins there.
     Truncated {

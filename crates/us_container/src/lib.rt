@@ -15,10 +15,3 @@ pub use fault::ContainerFault;
 pub use laws::{only_that_spelling, written_reads_back};
 pub use reading::read_container;
 pub use writing::write_container;
-
-#[cfg(test)]
-mod held_tests;
-#[cfg(test)]
-mod sample;
-#[cfg(test)]
-mod tests;

@@ -6,7 +6,7 @@ ghost use Rattle.us_decl.specs.Declares.{IsValid};
 ghost use Rattle.us_decl.specs.Views.{decl_view};
 ghost use Rattle.us_judge.specs.Acceptance.{first_refusal};
 ghost use Rattle.us_judge.specs.Views.{declaration_of};
-ghost use Rattle.us_container.specs.Contained.{TellsContained, contained_in, buffers_in, with_magic, version, declaration_at, declaration, accepted, side, right_count, at_end};
+ghost use Rattle.us_container.specs.Contained.{TellsContained, contained_in, all_buffers, held_in, buffers_in, with_magic, version, declaration_at, declaration, accepted, side, shape_at, behind_text, right_count, at_end};
 ghost use Rattle.us_container.specs.Text.{declaration_in};
 ghost use Rattle.us_container.specs.Answers.{Answers};
 
@@ -17,7 +17,7 @@ use std::alloc::Global;
 use us_check::{Held, check};
 use us_decl::Decl;
 use us_judge::{Format, JudgeFault, judge};
-use us_matrix::Shape;
+use us_matrix::{Buffers, Shape};
 
 /// The most rows, and the most columns.
 const LONGEST_SIDE: u64 = 2147483647;
@@ -40,7 +40,9 @@ fn version(len: usize, rest: &[u8]) -> Result<&[u8], ContainerFault>
     if bytes[0] == 1 {
         Ok(behind)
     } else {
-        Err(ContainerFault::Version { version: bytes[0] })
+        Err(ContainerFault::Version {
+            n: u64::from(bytes[0]),
+        })
     }
 }
 
@@ -94,6 +96,17 @@ fn side(len: usize, rest: &[u8]) -> Result<(u32, &[u8]), ContainerFault>
     Ok((n as u32, behind))
 }
 
+/// Rows and columns, and what stands behind them.
+fn shape_at(len: usize, rest: &[u8]) -> Result<(Shape, &[u8]), ContainerFault>
+    ensures is { Answers (λ x. (plain_shape x.0, x.1.now)) (shape_at len rest.now) result }
+    ensures rows { IfOk result (λ x. IsSide x.0.rows) }
+    ensures cols { IfOk result (λ x. IsSide x.0.cols) }
+{
+    let (rows, rest) = side(len, rest)?;
+    let (cols, rest) = side(len, rest)?;
+    Ok((Shape { rows, cols }, rest))
+}
+
 /// The number of buffers is the one that is wanted.
 fn right_count(count: u64, wanted: usize) -> Result<(), ContainerFault>
     ensures is { Answers (λ _. tt) (right_count count wanted) result }
@@ -120,6 +133,39 @@ fn at_end(len: usize, rest: &[u8]) -> Result<(), ContainerFault>
     }
 }
 
+/// As many buffers as are wanted, with nothing behind them.
+fn all_buffers(
+    alloc: Global,
+    len: usize,
+    wanted: usize,
+    rest: &[u8],
+) -> Result<Buffers, ContainerFault>
+    ensures { Answers (λ bufs. bufs) (all_buffers len wanted rest.now) result }
+{
+    let (count, rest) = number(len, rest)?;
+    right_count(count, wanted)?;
+    let (found, rest) = buffers(alloc, len, wanted, rest)?;
+    at_end(len, rest)?;
+    Ok(found)
+}
+
+/// The matrix of a format and a shape that these buffers mean, if they are well-formed.
+fn held_in(
+    alloc: Global,
+    format: Format,
+    shape: Shape,
+    buffers: Buffers,
+) -> Result<Held, ContainerFault>
+    requires rows { IsSide shape.rows }
+    requires cols { IsSide shape.cols }
+    ensures { TellsContained (held_in format (plain_shape shape) buffers) result }
+{
+    match check(alloc, format, shape, buffers) {
+        Ok(held) => Ok(held),
+        Err(broken) => Err(ContainerFault::from(broken)),
+    }
+}
+
 /// The matrix of a format and a shape whose buffers stand in the rest of the file.
 fn buffers_in(
     alloc: Global,
@@ -132,12 +178,26 @@ fn buffers_in(
     requires cols { IsSide shape.cols }
     ensures { TellsContained (buffers_in len format (plain_shape shape) rest.now) result }
 {
-    let (count, rest) = number(len, rest)?;
     let wanted = format.buffers();
-    right_count(count, wanted)?;
-    let (buffers, rest) = buffers(alloc, len, wanted, rest)?;
-    at_end(len, rest)?;
-    Ok(check(alloc, format, shape, buffers)?)
+    match all_buffers(alloc, len, wanted, rest) {
+        Ok(found) => held_in(alloc, format, shape, found),
+        Err(fault) => Err(fault),
+    }
+}
+
+/// The matrix of a format whose shape and buffers stand in the rest of the file.
+fn behind_text(
+    alloc: Global,
+    len: usize,
+    format: Format,
+    rest: &[u8],
+) -> Result<Held, ContainerFault>
+    ensures { TellsContained (behind_text len format rest.now) result }
+{
+    match shape_at(len, rest) {
+        Ok((shape, rest)) => buffers_in(alloc, len, format, shape, rest),
+        Err(fault) => Err(fault),
+    }
 }
 
 /// The matrix that a container holds, with its format and buffers; else the first fault, each field being tested as soon as it is
@@ -150,7 +210,5 @@ pub fn read_container(alloc: Global, bytes: &[u8]) -> Result<Held, ContainerFaul
     let rest = version(len, rest)?;
     let (decl, rest) = declaration(alloc, len, rest)?;
     let format = accepted(alloc, decl)?;
-    let (rows, rest) = side(len, rest)?;
-    let (cols, rest) = side(len, rest)?;
-    buffers_in(alloc, len, format, Shape { rows, cols }, rest)
+    behind_text(alloc, len, format, rest)
 }

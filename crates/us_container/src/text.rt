@@ -3,13 +3,14 @@ ghost use Rattle.std.specs.Prelude.{◌≡◌, ◌≤◌, drop, IfOk, IfSome, le
 ghost use Rattle.us_decl.specs.Declares.{IsValid};
 ghost use Rattle.us_decl.specs.Views.{decl_view};
 ghost use Rattle.us_print.specs.Canon.{decl_text};
-ghost use Rattle.us_decl.specs.Parses.{tokens_of};
+ghost use Rattle.us_parse.specs.Parses.{tokens_of};
 ghost use Rattle.us_container.specs.declared.text.TextFault.TheVariants.{Memory};
 ghost use Rattle.us_container.specs.Text.{first_difference, declaration_in, if_alone, if_canonical};
-ghost use Rattle.us_container.specs.Answers.{TellsText, text_fault};
+ghost use Rattle.us_container.specs.Answers.{TellsOf, TellsText, text_fault};
 
 use std::alloc::{AllocError, Global};
-use us_decl::{Decl, DeclFault, Lexeme, OneDecl, parse_one};
+use us_decl::{Decl, Lexeme};
+use us_parse::{DeclFault, OneDecl, parse_one};
 use us_print::print_decl;
 use us_tokens::{Cursor, Next};
 
@@ -31,7 +32,6 @@ impl From<AllocError> for TextFault {
 }
 
 /// The first place at which two texts differ, or at which one of them ends.
-#[tactic(auto, using(crate::proofs::Differing::agree_none, crate::proofs::Differing::agree_more, crate::proofs::Differing::differ_here, crate::proofs::Differing::right_ends, crate::proofs::Differing::left_ends, crate::proofs::Differing::both_end))]
 fn first_difference(left: &[u8], right: &[u8]) -> Option<usize>
     ensures is { result ≡ first_difference left.now right.now }
     ensures within { IfSome result (λ k. k ≤ length left.now) }
@@ -48,30 +48,29 @@ fn first_difference(left: &[u8], right: &[u8]) -> Option<usize>
     }
 }
 
-/// The declaration, if the text is its canonical text.
-fn if_canonical(alloc: Global, text: &[u8], decl: Decl) -> Result<Decl, TextFault>
-    requires { IsValid (decl_view decl) }
-    ensures is { TellsText (length text.now) (if_canonical text.now (decl_view decl) (first_difference text.now (decl_text (decl_view decl)))) result }
-    ensures valid { IfOk result (λ d. IsValid (decl_view d)) }
+/// The text is the canonical text of the declaration; else the first place at which it differs.
+fn is_canonical(alloc: Global, text: &[u8], decl: &Decl) -> Result<(), TextFault>
+    requires { IsValid (decl_view decl.now) }
+    ensures { TellsOf (length text.now) (decl_view decl.now)
+        (if_canonical text.now (decl_view decl.now) (first_difference text.now (decl_text (decl_view decl.now)))) result }
 {
-    let wanted = print_decl(alloc, &decl)?;
+    let wanted = print_decl(alloc, decl)?;
     match first_difference(text, &wanted) {
-        None => Ok(decl),
+        None => Ok(()),
         Some(place) => Err(TextFault::Place(place as u64)),
     }
 }
 
-/// The declaration, if only blanks and comments stand behind it and the text is its canonical text.
-fn if_alone(alloc: Global, text: &[u8], one: OneDecl) -> Result<Decl, TextFault>
-    requires valid { IsValid (decl_view one.decl) }
-    requires within { one.end ≤ length text.now }
-    ensures is { TellsText (length text.now) (if_alone text.now (decl_view one.decl) (tokens_of (drop one.end text.now))) result }
-    ensures valid { IfOk result (λ d. IsValid (decl_view d)) }
+/// Only blanks and comments stand behind the declaration, and the text is its canonical text.
+fn is_alone(alloc: Global, text: &[u8], one: &OneDecl) -> Result<(), TextFault>
+    requires valid { IsValid (decl_view one.now.decl) }
+    requires within { one.now.end ≤ length text.now }
+    ensures { TellsOf (length text.now) (decl_view one.now.decl) (if_alone text.now (decl_view one.now.decl) (tokens_of (drop one.now.end text.now))) result }
 {
     let (_, behind) = text.split_at(one.end);
     let cursor = Cursor::<Lexeme>::new(behind);
     match cursor.peek() {
-        Next::End => if_canonical(alloc, text, one.decl),
+        Next::End => is_canonical(alloc, text, &one.decl),
         _ => Err(TextFault::Place(text.len().saturating_sub(cursor.left()) as u64)),
     }
 }
@@ -95,7 +94,10 @@ pub fn declaration_in(alloc: Global, text: &[u8]) -> Result<Decl, TextFault>
     ensures valid { IfOk result (λ d. IsValid (decl_view d)) }
 {
     match parse_one(alloc, text, 0) {
-        Ok(one) => if_alone(alloc, text, one),
+        Ok(one) => match is_alone(alloc, text, &one) {
+            Ok(()) => Ok(one.decl),
+            Err(fault) => Err(fault),
+        },
         Err(fault) => Err(text_fault(fault)),
     }
 }

@@ -10,7 +10,7 @@ use Rattle.indexmap.specs.IndexMap.{IndexMap, keys, values, insert_entry}
 use Rattle.indexmap.proofs.CallerLemmas.{insert_entry-new}
 use Rattle.us_decl.specs.declared.decl.Decl.{Decl}
 use Rattle.us_decl.specs.Names.{same_name, number_of}
-use Rattle.us_decl.specs.Within.{is_among}
+use Rattle.us_decl.specs.Names.{is_among}
 use Rattle.us_decl.specs.Views.{decl_names}
 use Rattle.us_decl.proofs.Numbering.{at_most}
 

@@ -1,17 +1,7 @@
 pub mod Token
 pub mod Grammar
-pub mod Piece
 pub mod Names
 pub mod Limits
-pub mod Within
 pub mod Declares
 pub mod Words
-pub mod Machine
-pub mod Laws
-pub mod Reads
 pub mod Views
-pub mod ReadsQueries
-pub mod ReadsParts
-pub mod ReadsBodies
-pub mod ReadsDecls
-pub mod Parses

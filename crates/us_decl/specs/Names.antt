@@ -1,5 +1,5 @@
 -- The names of a head or a part, in the order of their first occurrences. The place of a name there is its number.
-use Rattle.std.specs.Prelude.{ℕ, List, [], ◌∷◌, ◌++◌, length, Bool, true, false, cond, not, eqb, ◌&&◌, Option, Some, None}
+use Rattle.std.specs.Prelude.{ℕ, List, [], ◌∷◌, ◌++◌, length, Bool, true, false, cond, not, eqb, ltb, ◌&&◌, Option, Some, None}
 use Rattle.std.specs.List.{prefix_len}
 use Rattle.us_decl.specs.Grammar.{Comma, Only, And, Run, Empty, Then, Expr, One, Plus, Less, Term, Just, Over, Rest, Factor, Row, Col, Named, Num, Group, Query, Single, Lanes, Part, Head}
 
@@ -57,3 +57,7 @@ names_part p = names_levels p.levels (names_queries p.queries)
 
 abbrev pub names_head : Head → List (List ℕ)
 names_head h = with_name h.name (names_queries h.queries)
+
+-- the name is one of these
+abbrev pub is_among : List ℕ → List (List ℕ) → Bool
+is_among n ns = ltb (number_of n ns) (length ns)

@@ -2,7 +2,7 @@
 
 ghost use Rattle.std.specs.Prelude.{◌≡◌, ◌<◌, [], ◌∷◌, ◌++◌, false, length, MatchOption, OnOk, slice_get, Some};
 ghost use Rattle.us_decl.specs.Names.{number_of};
-ghost use Rattle.us_decl.specs.Within.{is_among};
+ghost use Rattle.us_decl.specs.Names.{is_among};
 ghost use Rattle.us_decl.specs.Views.{decl_names};
 
 use crate::decl::Decl;
@@ -37,7 +37,7 @@ impl Model for Library {
 
 impl Library {
     /// No declaration.
-    pub(crate) fn new(alloc: Global) -> Library
+    pub fn new(alloc: Global) -> Library
         ensures { result ≡ [] }
     {
         Library {
@@ -60,7 +60,7 @@ impl Library {
     }
 
     /// Whether there is a declaration of this name.
-    pub(crate) fn has(&self, name: &Name) -> bool
+    pub fn has(&self, name: &Name) -> bool
         ensures { result ≡ is_among name.now (decl_names self.now) }
     {
         self.find(name.as_str()).is_some()
@@ -75,7 +75,7 @@ impl Library {
     }
 
     /// One more declaration, of a new name.
-    pub(crate) fn push(&mut self, decl: Decl) -> Result<(), AllocError>
+    pub fn push(&mut self, decl: Decl) -> Result<(), AllocError>
         requires { is_among decl.name (decl_names self.old) ≡ false }
         ensures { OnOk result (self.new ≡ self.old ++ decl ∷ []) }
     {

@@ -14,6 +14,3 @@ pub use laws::{tree_tells_expression, value_lies_in_range};
 pub use queries::{Axis, Cond, Query};
 pub use ranges::{Range, VarRanges, range_of};
 pub use values::{Point, eval};
-
-#[cfg(test)]
-mod tests;

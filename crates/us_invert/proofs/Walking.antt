@@ -11,7 +11,7 @@ use Rattle.us_expr.specs.Range.{range, index_range, IsRangeable}
 use Rattle.us_format.specs.Lists.{then_do, cell, nat_of}
 use Rattle.us_format.specs.Matrix.{Shape}
 use Rattle.us_format.specs.Declaration.{Part, Query}
-use Rattle.us_format.specs.Coordinates.{level_range, variable_ranges}
+use Rattle.us_format.specs.Coordinates.{level_range}
 use Rattle.us_format.specs.Known.{has, same_tree, Give, OfLevel, Steps, given_steps}
 use Rattle.us_format.specs.Recover.{Found, Values, value_of, both, give_value, lies_in, checked, recover, recovered, until_both, plan_of}
 use Rattle.us_format.proofs.Trees.{same_tree-true, same_tree-refl}
@@ -226,8 +226,10 @@ module _ (ts : List Tree) (steps : List PlanStep) (r c rows cols : ℕ) (vars : 
       ∙ ap (λ (x : Tree × Give). x ∷ drop (suc n) (steps_of ts steps)) (steps-at ts ts steps n (RowIndex, OfLevel 0) plan.steps_are.same_length l)
 
   -- the range of an expression, and of a level
-  same-range : (s : Shape) (p : Part) → IsRecoveryOf (steps_of ts steps) rows cols vars f.extents s p → (t : Tree) → level_range s f.extents p t ≡ range rows cols vars t
-  same-range s p h t = ap₂ (λ (m : ℕ) (k : ℕ). range m k (variable_ranges s f.extents p) t) h.rows_are h.cols_are ∙ ap (λ (rs : List Range). range rows cols rs t) (sym h.ranges_are)
+  same-range : (s : Shape) (p : Part) → IsRecoveryOf (steps_of ts steps) rows cols vars f.extents s p → (n : ℕ) → n < length ts → level_range s f.extents p (tree_at ts n) ≡ range rows cols vars (tree_at ts n)
+  same-range s p h n l =
+      subst (λ (x : Tree × Give). level_range s f.extents p x.0 ≡ range rows cols vars x.0) (steps-at ts ts steps n (RowIndex, OfLevel 0) plan.steps_are.same_length l)
+      (h.ranges_are n (RowIndex, OfLevel 0) (subst (λ (k : ℕ). n < k) (sym steps-length) l))
 
   level-low : (s : Shape) (p : Part) → IsRecoveryOf (steps_of ts steps) rows cols vars f.extents s p → (n : ℕ) → n < length ts → (k : ℕ) → step_at steps n ≡ Level k
       → (level_range s f.extents p (get_or p.levels k RowIndex)).lo ≡ (range rows cols vars (tree_at ts n)).lo
@@ -235,7 +237,7 @@ module _ (ts : List Tree) (steps : List PlanStep) (r c rows cols : ℕ) (vars : 
       ap (λ (x : Range). x.lo) (ap (level_range s f.extents p)
       ((plan-level p.levels p.queries n k (tree_at ts n) (RowIndex, OfLevel 0) (subst (λ (j : ℕ). n < j) (sym steps-length ∙ ap length h.plan_is) l)
       (ap (λ (xs : Steps). get_or xs n (RowIndex, OfLevel 0)) (sym h.plan_is) ∙ steps-at ts ts steps n (RowIndex, OfLevel 0) plan.steps_are.same_length l ∙ ap (λ (x : PlanStep). (tree_at ts n, give_at ts x)) e)).1)
-      ∙ same-range s p h (tree_at ts n))
+      ∙ same-range s p h n l)
 
   before-end : (n : ℕ) → n < length ts → n ≤ max r c
   before-end n l = omega (arith, l, plan.last)
@@ -256,7 +258,7 @@ module _ (ts : List Tree) (steps : List PlanStep) (r c rows cols : ℕ) (vars : 
       ∙ rw (
         both-none ts zs plan.steps_are.apart r c row-below plan.row col-below plan.col n (before-end n l),
         step-gives ts zs plan.steps_are.apart s p f n (less n l) (step_at steps n) (range rows cols vars (tree_at ts n)).lo (plan.steps_are.earlier n l) (level-low s p h n l),
-        same-range s p h (tree_at ts n),
+        same-range s p h n l,
       ) refl
     where
       less : (n : ℕ) → n < length ts → n ≤ length ts

@@ -1,5 +1,5 @@
 -- Recovery by a plan.
-use Rattle.std.specs.Prelude.{ℕ, ◌<◌, ◌+◌, ◌*◌, ◌^◌, ℤ, pos, ◌+ℤ◌, ◌-ℤ◌, ◌*ℤ◌, ◌≤ℤ◌, ◌<ℤ◌, List, map, length, slice_index_or, ◌≡◌, Option, Some, None, FitsSigned}
+use Rattle.std.specs.Prelude.{ℕ, ◌<◌, ◌+◌, ◌*◌, ◌^◌, ℤ, pos, ◌+ℤ◌, ◌-ℤ◌, ◌*ℤ◌, ◌≤ℤ◌, ◌<ℤ◌, List, map, length, slice_index_or, ◌≡◌, Option, Some, None, FitsSigned, All}
 use Rattle.std.proofs.Common.{w64}
 use Rattle.std.specs.Int.{int_div_euclid, int_rem_euclid}
 use Rattle.us_expr.specs.declared.ranges.Range.{Range}
@@ -8,7 +8,7 @@ use Rattle.us_expr.specs.Range.{range}
 use Rattle.us_format.specs.Lists.{nth, cell, nat_of}
 use Rattle.us_format.specs.Matrix.{Shape}
 use Rattle.us_format.specs.Declaration.{Part}
-use Rattle.us_format.specs.Coordinates.{variable_ranges, span}
+use Rattle.us_format.specs.Coordinates.{level_range, span}
 use Rattle.us_format.specs.Known.{Give, Itself, OfLevel, Plus, Minus, Joined, Over, Rest as RestGive, OrderAt, RowsAt, Steps}
 use Rattle.us_format.specs.Recover.{Found, plan_of}
 use Rattle.us_invert.specs.declared.steps.PlanStep.{PlanStep}
@@ -44,11 +44,9 @@ IsCoordinate values r (RowsAt q l t) = Unit {0}
 abbrev pub HasCoordinate : ℕ → ℕ → List Range → List ℤ → Tree × Give → Type 0
 HasCoordinate rows cols vars values x = IsCoordinate values (range rows cols vars x.0) x.1
 
--- the plan of a part of a matrix with these numbers of rows and columns and these ranges of variables
+-- the plan of a part; the expressions of its steps, and no others, have the ranges that they have in the part
 pub record IsRecoveryOf (plan : Steps) (rows cols : ℕ) (vars : List Range) (extents : List ℕ) (s : Shape) (p : Part) : Type 0 where
-  pub rows_are : s.rows ≡ rows
-  pub cols_are : s.cols ≡ cols
-  pub ranges_are : vars ≡ variable_ranges s extents p
+  pub ranges_are : All (λ x. level_range s extents p x.0 ≡ range rows cols vars x.0) plan
   pub plan_is : plan ≡ plan_of p.levels p.queries
 
 -- ---- one step

@@ -16,6 +16,3 @@ pub use planning::{PlanFault, plan};
 pub use recovering::{Cell, Tables};
 pub use recovery::RecoveryPlan;
 pub use steps::PlanStep;
-
-#[cfg(test)]
-mod tests;

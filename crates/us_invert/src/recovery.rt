@@ -55,7 +55,7 @@ fn copy_exprs(alloc: Global, exprs: &[Expr]) -> Result<Vec<Expr>, AllocError>
 
 impl RecoveryPlan {
     /// The plan of these steps.
-    pub fn from_steps(
+    pub(crate) fn from_steps(
         exprs: Vec<Expr>,
         steps: Vec<PlanStep>,
         rows_at: usize,

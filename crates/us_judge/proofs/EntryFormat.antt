@@ -1,9 +1,7 @@
 -- The built-in format is valid and breaks no rule.
-use Rattle.std.specs.Prelude.{[], ◌≡◌, refl, Some, None}
+use Rattle.std.specs.Prelude.{refl, Some, None}
 use Rattle.us_decl.specs.Grammar.{Only, And, Empty, One, Just, Row, Col, Whole}
 use Rattle.us_decl.specs.Declares.{IsValid}
-use Rattle.us_judge.specs.Acceptance.{first_refusal}
-use Rattle.us_judge.specs.Views.{declaration_of}
 use Rattle.us_judge.specs.Entry.{entry_format}
 
 pub entry_valid : IsValid entry_format

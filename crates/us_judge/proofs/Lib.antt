@@ -8,8 +8,8 @@ pub mod Knowing
 pub mod Apart
 pub mod Verdicts
 pub mod Valid
-pub mod Parsed
 pub mod PartKinds
+pub mod SomePart
 pub mod PartPlans
 pub mod Counting
 pub mod ValidExpressions

@@ -1,8 +1,8 @@
 -- The parts of an accepted declaration can be planned, and the kept plan of a part is by its number.
 use Rattle.std.specs.Prelude.{None}
-use Rattle.std.proofs.Common.{◌≡◌, ℕ, ◌<◌, List, [], ◌∷◌, length, map, get_or, All, ap, ◌∙◌}
+use Rattle.std.proofs.Common.{◌≡◌, ℕ, ◌<◌, List, length, map, get_or, All, ap, ◌∙◌}
 use Rattle.std.proofs.lemmas.List.{get_or-map}
-use Rattle.us_format.specs.Declaration.{Part, Declaration}
+use Rattle.us_format.specs.Declaration.{Declaration}
 use Rattle.us_format.specs.Known.{Steps}
 use Rattle.us_decl.specs.Declares.{Declared, IsValid}
 use Rattle.us_judge.specs.Acceptance.{first_refusal}

@@ -71,10 +71,13 @@ counting_variables (_ ∷ qs) = counting_variables qs
 
 -- ---- tests of an item
 
+-- variables that are different, and not defined before
+abbrev pub defines_new : List Query → Query → Bool
+defines_new before q = all_different (defines q) && list_all (λ v. not (among v (defined before))) (defines q)
+
 -- a query uses only variables of the queries before it, and defines only new ones, each once
 abbrev pub is_defined_once : List Query → Query → Bool
-is_defined_once before q =
-    uses_only (defined before) (argument q) && (all_different (defines q) && list_all (λ v. not (among v (defined before))) (defines q))
+is_defined_once before q = uses_only (defined before) (argument q) && defines_new before q
 
 -- a schedule has 1 to 64 lanes
 abbrev pub has_lawful_lanes : Query → Bool
@@ -120,10 +123,13 @@ abbrev pub is_run : Part → List Column → Bool
 is_run p (LevelColumn k ∷ cs) = nat_lt k (length p.levels) && (not (is_full (kind p k)) && is_run_from p (suc k) cs)
 is_run p _ = false
 
+-- no column stands in an earlier pack
+abbrev pub is_apart : List (List Column) → List Column → Bool
+is_apart before pack = list_all (λ c. not (list_any (list_any (same_column c)) before)) pack
+
 -- two or more columns in a run, none of which stands in an earlier pack
 abbrev pub is_lawful_pack : Part → List (List Column) → List Column → Bool
-is_lawful_pack p before pack =
-    nat_le 2 (length pack) && (is_run p pack && list_all (λ c. not (list_any (list_any (same_column c)) before)) pack)
+is_lawful_pack p before pack = nat_le 2 (length pack) && (is_run p pack && is_apart before pack)
 
 -- ---- the rules, by their numbers
 
@@ -189,9 +195,13 @@ part_rules =
 
 -- ---- the head
 
+-- the variable of a condition is defined in the head
+abbrev pub bad_condition : List Query → List Cond → Option ℕ
+bad_condition head conds = first_failing (λ _ c. among c.var (defined head)) [] (length head) conds
+
 -- the variables of the head's queries, and then those of the conditions, are defined
 abbrev pub bad_head_name : Declaration → Option ℕ
-bad_head_name d = or_else (first_failing is_defined_once [] 0 d.head) (first_failing (λ _ c. among c.var (defined d.head)) [] (length d.head) d.conds)
+bad_head_name d = or_else (first_failing is_defined_once [] 0 d.head) (bad_condition d.head d.conds)
 
 -- every query of a head is a sum or an enumerate
 abbrev pub bad_head_query : Declaration → Option ℕ

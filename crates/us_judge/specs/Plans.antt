@@ -1,5 +1,5 @@
 -- The plans of parts.
-use Rattle.std.specs.Prelude.{◌≡◌, ◌≤◌, ℕ, [], length, All}
+use Rattle.std.specs.Prelude.{◌≡◌, ◌≤◌, [], length, All}
 use Rattle.us_expr.specs.Tree.{node_count}
 use Rattle.us_format.specs.Declaration.{Part}
 use Rattle.us_format.specs.Known.{Steps}

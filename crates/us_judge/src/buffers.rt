@@ -38,8 +38,8 @@ fn made_by_all(queries: &[Query]) -> usize
     count
 }
 
-/// Whether a column is in a pack.
-fn is_packed(part: &Part, column: Column) -> bool
+/// Whether some pack of a part has a column.
+pub fn is_packed(part: &Part, column: Column) -> bool
     ensures { result ≡ is_packed (plain_part part.now) (CellsOf (column_of column)) }
 {
     is_in_some(column, part.packs.as_slice())
@@ -54,7 +54,7 @@ fn own_cells(part: &Part, column: Column) -> usize
 }
 
 /// How many buffers of its own a level has.
-fn own_of_level(part: &Part, kind: Kind, level: usize) -> usize
+pub fn own_of_level(part: &Part, kind: Kind, level: usize) -> usize
     requires { level ≤ 16 }
     ensures count { result ≡ length (filter (is_own (plain_part part.now)) (level_pieces level kind)) }
     ensures few { result ≤ 2 }

@@ -1,5 +1,5 @@
 //! Formats: declarations that break no rule.
-ghost use Rattle.std.specs.Prelude.{◌≡◌, ◌<◌, ◌≤◌, [], ◌∷◌, None, map, length, IfOk, OnOk, IfErr};
+ghost use Rattle.std.specs.Prelude.{◌≡◌, ◌<◌, ◌≤◌, ◌-◌, [], ◌∷◌, None, map, length, IfOk, OnOk, IfErr};
 ghost use Rattle.us_format.specs.Kinds.{kind};
 ghost use Rattle.us_format.specs.Reading.{total_count};
 ghost use Rattle.us_decl.specs.Declares.{IsValid};
@@ -154,6 +154,18 @@ fn count_all(body: &Body, kinds: &[Kinds]) -> usize
     }
 }
 
+/// The part of a body with this number, counted from 1.
+fn part_of(body: &Body, part: usize) -> &Part
+    requires from_one { 1 ≤ part }
+    requires part { part ≤ length (plain_body body.now).parts }
+    ensures { plain_part result.now ≡ part_at (plain_body body.now) (part - 1) }
+{
+    match body {
+        Body::One(one) => one,
+        Body::Two { first, rest, .. } => { if part == 1 { first } else { rest } }
+    }
+}
+
 impl Format {
     /// The declaration.
     pub fn decl(&self) -> &Decl
@@ -164,44 +176,59 @@ impl Format {
         &self.decl
     }
 
-    /// How many parts there are: one, or two of a divided declaration.
+    /// How many parts there are: one, or two of a divided declaration. They are counted from 1.
     pub fn parts(&self) -> usize
         ensures { result ≡ length (declaration_of self.now).parts }
     {
         self.kinds.len()
     }
 
-    /// How many levels a part has, the parts being counted from 0.
+    /// The part with this number, counted from 1.
+    pub fn part(&self, part: usize) -> &Part
+        requires from_one { 1 ≤ part }
+        requires part { part ≤ length (declaration_of self.now).parts }
+        ensures is { plain_part result.now ≡ part_at (declaration_of self.now) (part - 1) }
+        ensures valid { IsValid self.now }
+        ensures accepted { first_refusal (declaration_of self.now) ≡ None }
+    {
+        part_of(&self.decl().body, part)
+    }
+
+    /// How many levels a part has, the parts being counted from 1.
     pub fn levels(&self, part: usize) -> usize
-        requires { part < length (declaration_of self.now).parts }
-        ensures { result ≡ length (part_at (declaration_of self.now) part).levels }
+        requires from_one { 1 ≤ part }
+        requires part { part ≤ length (declaration_of self.now).parts }
+        ensures { result ≡ length (part_at (declaration_of self.now) (part - 1)).levels }
     {
-        self.kinds.as_slice()[part].len()
+        self.kinds(part).len()
     }
 
-    /// The kind of a level of a part, both counted from 0.
+    /// The kind of a level of a part. The parts are counted from 1, the levels from 0.
     pub fn kind(&self, part: usize, level: usize) -> Kind
-        requires part { part < length (declaration_of self.now).parts }
-        requires level { level < length (part_at (declaration_of self.now) part).levels }
-        ensures { result ≡ kind (part_at (declaration_of self.now) part) level }
+        requires from_one { 1 ≤ part }
+        requires part { part ≤ length (declaration_of self.now).parts }
+        requires level { level < length (part_at (declaration_of self.now) (part - 1)).levels }
+        ensures { result ≡ kind (part_at (declaration_of self.now) (part - 1)) level }
     {
-        self.kinds.as_slice()[part].as_slice()[level]
+        self.kinds(part)[level]
     }
 
-    /// The kinds of the levels of a part, the parts being counted from 0.
+    /// The kinds of the levels of a part, the parts being counted from 1.
     pub fn kinds(&self, part: usize) -> &[Kind]
-        requires { part < length (declaration_of self.now).parts }
-        ensures { result.now ≡ kinds_of (part_at (declaration_of self.now) part) }
+        requires from_one { 1 ≤ part }
+        requires part { part ≤ length (declaration_of self.now).parts }
+        ensures { result.now ≡ kinds_of (part_at (declaration_of self.now) (part - 1)) }
     {
-        self.kinds.as_slice()[part].as_slice()
+        self.kinds.as_slice()[part - 1].as_slice()
     }
 
-    /// The plan by which the indices of a part's entries are recovered, the parts being counted from 0.
+    /// The plan by which the indices of a part's entries are recovered, the parts being counted from 1.
     pub fn plan(&self, part: usize) -> &RecoveryPlan
-        requires { part < length (declaration_of self.now).parts }
-        ensures { result.now ≡ plan_for (part_at (declaration_of self.now) part) }
+        requires from_one { 1 ≤ part }
+        requires part { part ≤ length (declaration_of self.now).parts }
+        ensures { result.now ≡ plan_for (part_at (declaration_of self.now) (part - 1)) }
     {
-        &self.plans.as_slice()[part]
+        &self.plans.as_slice()[part - 1]
     }
 
     /// How many buffers the format has.

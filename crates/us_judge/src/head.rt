@@ -2,7 +2,7 @@
 ghost use Rattle.std.specs.Prelude.{◌≡◌, ◌≤◌, [], ◌∷◌, map, length};
 ghost use Rattle.us_format.specs.Lists.{among};
 ghost use Rattle.us_format.specs.Declaration.{query_of, defined};
-ghost use Rattle.us_judge.specs.Acceptance.{first_failing, bad_head_name, refusal_by, head_rules};
+ghost use Rattle.us_judge.specs.Acceptance.{first_failing, bad_condition, bad_head_name, refusal_by, head_rules};
 ghost use Rattle.us_judge.specs.Views.{plain_head};
 
 use crate::part::Verdict;
@@ -14,7 +14,7 @@ use us_decl::Head;
 /// The condition, if its variable is not defined.
 fn unknown_condition(head: &Head) -> Option<u32>
     requires { length head.now.queries ≤ 16 }
-    ensures { result ≡ first_failing (λ _ c. among c.var (defined (map query_of head.now.queries))) [] (length (map query_of head.now.queries)) (head.now.cond ∷ []) }
+    ensures { result ≡ bad_condition (map query_of head.now.queries) (head.now.cond ∷ []) }
 {
     let queries = head.queries.as_slice();
     if is_member(queries, Class::Defined, head.cond.var) {

@@ -1,25 +1,13 @@
 //! The ranges of the levels of a format.
-ghost use Rattle.std.specs.Prelude.{◌≡◌, ◌<◌, ◌^◌, length, map, slice_index_or};
+ghost use Rattle.std.specs.Prelude.{◌≡◌, ◌<◌, ◌≤◌, ◌-◌, ◌^◌, length, slice_index_or};
 ghost use Rattle.us_expr.specs.Tree.{tree, RowIndex};
-ghost use Rattle.us_format.specs.Coordinates.{level_range};
-ghost use Rattle.us_judge.specs.Format.{part_at};
-ghost use Rattle.us_judge.specs.Views.{declaration_of, plain_part, plain_body};
+ghost use Rattle.us_judge.specs.Format.{part_at, range_at};
+ghost use Rattle.us_judge.specs.Views.{declaration_of, plain_part};
 
 use crate::format::Format;
 use arrayvec::ArrayVec;
-use us_decl::{Body, Part};
+use us_decl::Part;
 use us_expr::{Expr, Range, VarRanges, range_of};
-
-/// The part with this number, counted from 0.
-fn part_of(body: &Body, number: usize) -> &Part
-    requires { number < length (plain_body body.now).parts }
-    ensures { plain_part result.now ≡ part_at (plain_body body.now) number }
-{
-    match body {
-        Body::One(part) => part,
-        Body::Two { first, rest, .. } => { if number == 0 { first } else { rest } }
-    }
-}
 
 /// The expression of a level of a part.
 fn expression_of(part: &Part, level: usize) -> &Expr
@@ -30,21 +18,21 @@ fn expression_of(part: &Part, level: usize) -> &Expr
 }
 
 impl Format {
-    /// The range of the coordinates' values of a level of a part, both counted from 0, in a matrix of this many rows and
-    /// columns, each below 2^31. It takes no memory.
+    /// The range of the coordinates' values of a level, in a matrix of this many rows and columns, each below 2^31. The parts
+    /// are counted from 1, the levels from 0. It takes no memory.
     pub fn level_range(&self, part: usize, level: usize, shape_rows: u32, shape_cols: u32) -> Range
-        requires part { part < length (declaration_of self.now).parts }
-        requires level { level < length (part_at (declaration_of self.now) part).levels }
+        requires from_one { 1 ≤ part }
+        requires part { part ≤ length (declaration_of self.now).parts }
+        requires level { level < length (part_at (declaration_of self.now) (part - 1)).levels }
         requires rows { shape_rows < 2 ^ 31 }
         requires cols { shape_cols < 2 ^ 31 }
-        ensures { result ≡ level_range (record { rows = shape_rows; cols = shape_cols }) (map (λ q. 0) (part_at (declaration_of self.now) part).queries) (part_at (declaration_of self.now) part) (slice_index_or (part_at (declaration_of self.now) part).levels level RowIndex) }
+        ensures { result ≡ range_at (record { rows = shape_rows; cols = shape_cols }) (declaration_of self.now) (part - 1) level }
     {
         let ranges = VarRanges {
             shape_rows,
             shape_cols,
             vars: ArrayVec::new(),
         };
-        let part = part_of(&self.decl().body, part);
-        range_of(expression_of(part, level), &ranges)
+        range_of(expression_of(self.part(part), level), &ranges)
     }
 }

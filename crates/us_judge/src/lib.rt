@@ -17,11 +17,9 @@ mod refusal;
 mod rules;
 mod variables;
 
+pub use buffers::{is_packed, own_of_level};
 pub use entry::entry_format;
 pub use format::{Format, judge};
 pub use laws::{accepted_is_lawful, worked_refusals};
 pub use refusal::{JudgeFault, Refusal};
 pub use us_format::Kind;
-
-#[cfg(test)]
-mod tests;

@@ -3,7 +3,7 @@ ghost use Rattle.std.specs.Prelude.{◌≡◌, ◌<◌, ◌≤◌, ◌&&◌, [],
 ghost use Rattle.std.specs.List.{list_any, list_all};
 ghost use Rattle.us_format.specs.Declaration.{same_column};
 ghost use Rattle.us_format.specs.Kinds.{kind};
-ghost use Rattle.us_judge.specs.Acceptance.{first_failing, first_pack, is_slot, is_full, is_run_from, is_run, is_lawful_pack, bad_pack};
+ghost use Rattle.us_judge.specs.Acceptance.{first_failing, first_pack, is_slot, is_full, is_run_from, is_run, is_apart, is_lawful_pack, bad_pack};
 ghost use Rattle.us_judge.specs.Views.{column_of, plain_part};
 ghost use Rattle.us_judge.specs.Kinds.{kinds_of};
 ghost use Rattle.us_judge.specs.Short.{IsShort};
@@ -45,7 +45,7 @@ fn none_is_in_some(packs: &[Pack], pack: &Pack) -> bool
 
 /// Whether no column of a pack is in one of the packs.
 fn is_apart(packs: &[Pack], pack: &Pack) -> bool
-    ensures { result ≡ list_all (λ c. not (list_any (list_any (same_column c)) (map (map column_of) packs.now))) (map column_of pack.now) }
+    ensures { result ≡ is_apart (map (map column_of) packs.now) (map column_of pack.now) }
 {
     none_is_in_some(packs, pack)
 }
@@ -124,7 +124,7 @@ fn is_run(part: &Part, kinds: &[Kind], columns: &[Column]) -> bool
 fn is_new_run(part: &Part, kinds: &[Kind], before: &[Pack], pack: &Pack) -> bool
     requires kinds { kinds.now ≡ kinds_of (plain_part part.now) }
     requires short { length part.now.levels ≤ 16 }
-    ensures { result ≡ (is_run (plain_part part.now) (map column_of pack.now) && list_all (λ c. not (list_any (list_any (same_column c)) (map (map column_of) before.now))) (map column_of pack.now)) }
+    ensures { result ≡ (is_run (plain_part part.now) (map column_of pack.now) && is_apart (map (map column_of) before.now) (map column_of pack.now)) }
 {
     is_run(part, kinds, pack.as_slice()) && is_apart(before, pack)
 }

@@ -4,9 +4,9 @@ ghost use Rattle.std.specs.List.{list_all};
 ghost use Rattle.us_format.specs.Lists.{among, all_different};
 ghost use Rattle.us_expr.specs.Tree.{tree};
 ghost use Rattle.us_format.specs.Declaration.{query_of, argument, defines, defined};
-ghost use Rattle.us_judge.specs.Acceptance.{unless, first_failing, first_level, first_trim, first_merge, is_defined_once, has_lawful_lanes, is_count, some_query, bad_count, bad_name, bad_argument, bad_lanes, bad_sum, bad_whole, bad_number, bad_merge, bad_order};
+ghost use Rattle.us_judge.specs.Acceptance.{unless, first_failing, first_level, first_trim, first_merge, defines_new, is_defined_once, has_lawful_lanes, is_count, some_query, bad_count, bad_name, bad_argument, bad_lanes, bad_sum, bad_whole, bad_number, bad_merge, bad_order};
 ghost use Rattle.us_format.specs.Kinds.{is_loose};
-ghost use Rattle.us_judge.specs.Variables.{is_lawful_level};
+ghost use Rattle.us_judge.specs.Variables.{bad_level, is_lawful_level};
 ghost use Rattle.us_judge.specs.Views.{plain_part};
 ghost use Rattle.us_judge.specs.Short.{IsShort};
 
@@ -42,7 +42,7 @@ fn argument(query: &Query) -> &Expr
 
 /// Whether a query defines no variable that is defined before, and none twice.
 fn defines_new(before: &[Query], query: &Query) -> bool
-    ensures { result ≡ (all_different (defines (query_of query.now)) && list_all (λ v. not (among v (defined (map query_of before.now)))) (defines (query_of query.now))) }
+    ensures { result ≡ defines_new (map query_of before.now) (query_of query.now) }
 {
     match query {
         Query::Sum { var, .. } | Query::Enumerate { var, .. } | Query::Reorder { var, .. } => {
@@ -154,7 +154,7 @@ fn first_unlawful(levels: &[Expr], queries: &[Query], class: Class, first: usize
 /// The first level of a part that is not lawful as to the variables of a class.
 fn unlawful_level(part: &Part, class: Class) -> Option<u32>
     requires { IsShort (plain_part part.now) }
-    ensures { result ≡ first_failing (λ _ e. is_lawful_level class (plain_part part.now).queries e) [] (first_level (plain_part part.now)) (plain_part part.now).levels }
+    ensures { result ≡ bad_level class (plain_part part.now) }
 {
     let queries = part.queries.as_slice();
     first_unlawful(part.levels.as_slice(), queries, class, queries.len())

@@ -10,6 +10,3 @@ mod table;
 
 pub use known_set::{KnownSet, known, table_of};
 pub use table::{Node, find, number_of};
-
-#[cfg(test)]
-mod tests;

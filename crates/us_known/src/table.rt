@@ -1,5 +1,5 @@
 //! The table of sub-expressions, each with its operands by their numbers.
-ghost use Rattle.std.specs.Prelude.{◌≡◌, ◌<◌, [], ◌∷◌, length, false, IfOk, OnOk, IfSome, IfNone, slice_get};
+ghost use Rattle.std.specs.Prelude.{ℕ, ◌≡◌, ◌≢◌, ◌<◌, [], ◌∷◌, length, false, IfOk, OnOk, IfSome, IfNone, slice_get};
 ghost use Rattle.us_expr.specs.Tree.{tree};
 ghost use Rattle.us_format.specs.Known.{has, add_all, sub_expressions};
 ghost use Rattle.us_known.specs.Table.{tree_of, trees, IsBelow, IsTable, IsNumberOf, IsNoNode};
@@ -20,9 +20,10 @@ pub enum Node {
     Remainder(usize, u32),
 }
 
-/// The number of a node, if it is in the table.
+/// The number of the first place at which a node stands, if it is in the table.
 pub fn find(nodes: &[Node], wanted: Node) -> Option<usize>
     ensures found { IfSome result (λ n. slice_get nodes.now n ≡ Some wanted) }
+    ensures first { IfSome result (λ n. (k : ℕ) → k < n → slice_get nodes.now k ≢ Some wanted) }
     ensures absent { IfNone result (IsNoNode nodes.now wanted) }
 {
     for (n, node) in nodes.iter().enumerate() {

@@ -1,11 +1,10 @@
 //! The buffers of a part from the cells of its pieces.
-ghost use Rattle.std.specs.Prelude.{◌≡◌, ◌++◌, [], ◌∷◌, All, IfOk, List, OnOk, map, not};
-ghost use Rattle.std.specs.List.{filter};
-ghost use Rattle.us_format.specs.Packs.{Buffer, CellsOf, is_packed, packed, written};
+ghost use Rattle.std.specs.Prelude.{◌≡◌, ◌++◌, [], ◌∷◌, IfOk, List, OnOk, map};
+ghost use Rattle.us_format.specs.Packs.{Buffer, packed, written};
 ghost use Rattle.us_judge.specs.Kinds.{kinds_of};
 ghost use Rattle.us_judge.specs.Views.{column_of, plain_part};
-ghost use Rattle.us_layout.specs.Arranging.{PacksHaveOneLength, list_of, plain_piece};
-ghost use Rattle.us_layout.specs.Interleaving.{HaveOneLength, interleaved_cells};
+ghost use Rattle.us_layout.specs.Arranging.{HaveOneLengthEach, PacksHaveOneLength, columns_of, list_of, own_cells, pack_cells, packs_cells, plain_piece};
+ghost use Rattle.us_layout.specs.Interleaving.{HaveOneLength};
 
 use crate::interleaving::interleave_slices;
 use crate::pieces::{Piece, is_packed, piece_of, pieces_of, place_of};
@@ -35,7 +34,7 @@ fn push_unless_packed(
     lists: &Buffers,
     piece: Piece,
 ) -> Result<(), AllocError>
-    ensures { OnOk result (arranged.new ≡ arranged.old ++ map (list_of (map plain_piece pieces.now) lists.now) (filter (λ x. not (is_packed (plain_part part.now) x)) (plain_piece piece ∷ []))) }
+    ensures { OnOk result (arranged.new ≡ arranged.old ++ own_cells (plain_part part.now) (map plain_piece pieces.now) lists.now (plain_piece piece ∷ [])) }
 {
     if is_packed(part, piece) {
         return Ok(());
@@ -53,7 +52,7 @@ fn push_own(
     pieces: &[Piece],
     lists: &Buffers,
 ) -> Result<(), AllocError>
-    ensures { OnOk result (arranged.new ≡ arranged.old ++ map (list_of (map plain_piece pieces.now) lists.now) (filter (λ x. not (is_packed (plain_part part.now) x)) (map plain_piece pieces.now))) }
+    ensures { OnOk result (arranged.new ≡ arranged.old ++ own_cells (plain_part part.now) (map plain_piece pieces.now) lists.now (map plain_piece pieces.now)) }
 {
     for piece in pieces {
         push_unless_packed(alloc, arranged, part, pieces, lists, *piece)?;
@@ -69,8 +68,8 @@ pub fn pack_cells(
     lists: &Buffers,
     pack: &Pack,
 ) -> Result<Vec<i64>, AllocError>
-    requires { HaveOneLength (map (λ c. list_of (map plain_piece pieces.now) lists.now (CellsOf c)) (map column_of pack.now)) }
-    ensures { IfOk result (λ v. v.items ≡ interleaved_cells (map (λ c. list_of (map plain_piece pieces.now) lists.now (CellsOf c)) (map column_of pack.now))) }
+    requires { HaveOneLength (columns_of (map plain_piece pieces.now) lists.now (map column_of pack.now)) }
+    ensures { IfOk result (λ v. v.items ≡ pack_cells (map plain_piece pieces.now) lists.now (map column_of pack.now)) }
 {
     let mut columns = Vec::with_capacity(alloc, pack.len())?;
     for column in pack.as_slice() {
@@ -87,8 +86,8 @@ fn push_packs(
     pieces: &[Piece],
     lists: &Buffers,
 ) -> Result<(), AllocError>
-    requires { All (λ pack. HaveOneLength (map (λ c. list_of (map plain_piece pieces.now) lists.now (CellsOf c)) (map column_of pack))) packs.now }
-    ensures { OnOk result (arranged.new ≡ arranged.old ++ map (λ pack. interleaved_cells (map (λ c. list_of (map plain_piece pieces.now) lists.now (CellsOf c)) (map column_of pack))) packs.now) }
+    requires { HaveOneLengthEach (map plain_piece pieces.now) lists.now packs.now }
+    ensures { OnOk result (arranged.new ≡ arranged.old ++ packs_cells (map plain_piece pieces.now) lists.now packs.now) }
 {
     for pack in packs {
         arranged.push(pack_cells(alloc, pieces, lists, pack)?)?;

@@ -9,6 +9,3 @@ mod pieces;
 pub use arranging::{arrange, pack_cells};
 pub use interleaving::{interleave, interleaving_is_undone, separate};
 pub use pieces::{Piece, is_packed, pieces_of};
-
-#[cfg(test)]
-mod tests;

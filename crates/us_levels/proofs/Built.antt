@@ -11,7 +11,7 @@ use Rattle.us_matrix.specs.declared.shape.Shape as code
 use Rattle.us_format.specs.declared.Kind.{Kind}
 use Rattle.us_format.specs.Matrix.{Shape, IsMatrixOf}
 use Rattle.us_format.specs.Program.{shape_in, entries_in, plain_shape, plain_entry, plain_entries}
-use Rattle.us_format.specs.Declaration.{Column, Part, Declaration}
+use Rattle.us_format.specs.Declaration.{Column, Part}
 use Rattle.us_format.specs.Meaning.{meaning}
 use Rattle.us_format.specs.Packs.{Buffer, Piece, PosOf, CellsOf, in_pack, is_packed, buffer_of, interleaved, written, packed, pieces}
 use Rattle.us_format.specs.Positions.{rows_of}
@@ -22,16 +22,13 @@ use Rattle.us_format.proofs.FromProgram.{program-matrix}
 use Rattle.us_format.proofs.Pieces.{pieces-distinct, buffers-of-pieces, as-many-buffers}
 use Rattle.us_format.proofs.Whole.{buffers-mean-matrix, small-without-queries}
 use Rattle.us_decl.specs.declared.column.Column as held_column
-use Rattle.us_decl.specs.declared.decl.Decl.{Decl}
 use Rattle.us_decl.specs.declared.decl.Part as held
 use Rattle.us_decl.specs.Declares.{Declared, IsValid}
-use Rattle.us_decl.specs.Views.{decl_view}
 use Rattle.us_judge.specs.Acceptance.{first_refusal}
 use Rattle.us_judge.specs.Format.{part_at}
 use Rattle.us_judge.specs.Kinds.{kinds_of}
-use Rattle.us_judge.specs.Views.{declaration_of, column_of, plain_part, plain_body}
+use Rattle.us_judge.specs.Views.{declaration_of, column_of, plain_part}
 use Rattle.us_judge.proofs.LawfulDeclarations.{accepted-declaration}
-use Rattle.us_judge.proofs.Valid.{plain-is}
 use Rattle.us_build.specs.Pieces.{IsPlain, IsBuildable, piece_size}
 use Rattle.us_layout.specs.Arranging.{PacksHaveOneLength}
 use Rattle.us_levels.proofs.OnePart.{packs-alike, IsOnly, only, buildable, plain-of, size-is, buffers-are, entries-within}
@@ -52,14 +49,13 @@ without-packs p bs none l =
     all-kept (x ∷ xs) = rw (none-has x) (ap (λ l. x ∷ l) (all-kept xs))
 
 -- what the calls before say: the format is accepted, and these are its part, its kinds, and the matrix
-pub record IsCase (x : Declared) (d : Decl) (part : held.Part) (m : Map) : Type 0 where
+pub record IsCase (x : Declared) (part : held.Part) (m : Map) : Type 0 where
   pub valid : IsValid x
   pub accepted : first_refusal (declaration_of x) ≡ None
-  pub view : decl_view d ≡ x
-  pub part_is : plain_part part ≡ part_at (plain_body d.body) 0
+  pub part_is : plain_part part ≡ part_at (declaration_of x) 0
   pub matrix : IsMatrix m
 
-module _ (x : Declared) (d : Decl) (part : held.Part) (m : Map) (k : IsCase x d part m) where
+module _ (x : Declared) (part : held.Part) (m : Map) (k : IsCase x part m) where
   abbrev pub the_part : Part
   the_part = part_at (declaration_of x) 0
 
@@ -67,7 +63,7 @@ module _ (x : Declared) (d : Decl) (part : held.Part) (m : Map) (k : IsCase x d 
   it = only x k.valid k.accepted
 
   pub part-there : plain_part part ≡ the_part
-  part-there = k.part_is ∙ ap (λ (e : Declaration). part_at e 0) (sym (plain-is d) ∙ ap declaration_of k.view)
+  part-there = k.part_is
 
   pub is-matrix : IsMatrixOf (shape_in m) (entries_in m)
   is-matrix = program-matrix m k.matrix

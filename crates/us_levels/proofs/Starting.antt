@@ -8,12 +8,10 @@ use Rattle.us_matrix.specs.Map.{IsMatrix, IsSide, Map}
 use Rattle.us_matrix.specs.declared.matrix.Triple.{Triple}
 use Rattle.us_matrix.specs.declared.shape.Shape as code
 use Rattle.us_decl.specs.Declares.{Declared, IsValid}
-use Rattle.us_decl.specs.declared.decl.Body.TheVariants.{One, Two}
-use Rattle.us_decl.specs.declared.decl.Head as heads
 use Rattle.us_decl.specs.declared.decl.Part as held
 use Rattle.us_format.specs.declared.Kind.{Kind}
 use Rattle.us_format.specs.Buffers.{all_buffers, parts_of, piece_buffers}
-use Rattle.us_format.specs.Declaration.{Declaration, Part}
+use Rattle.us_format.specs.Declaration.{Part}
 use Rattle.us_format.specs.Matrix.{Entry, IsMatrixOf, Shape}
 use Rattle.us_format.specs.Program.{entries_in, plain_entries, plain_entry, plain_shape, shape_in}
 use Rattle.us_format.specs.Meaning.{meaning}
@@ -24,14 +22,15 @@ use Rattle.us_format.proofs.FromProgram.{program-matrix}
 use Rattle.us_judge.specs.Kinds.{kinds_of}
 use Rattle.us_judge.specs.Acceptance.{first_refusal}
 use Rattle.us_judge.specs.Format.{part_at}
-use Rattle.us_judge.specs.Views.{declaration_of, plain_body, plain_part}
+use Rattle.us_judge.specs.Views.{declaration_of, plain_part}
 use Rattle.us_judge.proofs.Accepted.{KeepsRules, accepted-keeps}
-use Rattle.us_judge.proofs.LawfulDeclarations.{HasPlainLevels, accepted-lawful, accepted-levels, accepted-one, part-packs, part-queries}
+use Rattle.us_judge.proofs.LawfulDeclarations.{HasPlainLevels, accepted-lawful, accepted-levels, part-packs, part-queries}
 use Rattle.us_layout.proofs.Arranged.{All-of_map}
 use Rattle.us_build.specs.Levels.{IsSimple}
 use Rattle.us_build.specs.Pieces.{IsBuildable, IsPlain}
 use Rattle.us_build.specs.Ways.{IsStartOf, Way}
 use Rattle.us_levels.specs.Comparable.{IsComparable}
+use Rattle.us_levels.proofs.OnePart.{only as whole}
 use Rattle.us_levels.proofs.Numbers.{few-entries, few-positions}
 use Rattle.us_levels.proofs.Walked.{IsCompared, compared-start, one-part}
 
@@ -76,12 +75,12 @@ module _ (part : held.Part) (mx : Map) (bufs : List (List ℤ)) (exprs : List Ex
 -- ---- an accepted declaration
 
 -- what the only part of an accepted declaration is
-module _ (d : Declared) (part : held.Part) (valid : IsValid d) (accepted : first_refusal (declaration_of d) ≡ None) (one : declaration_of d ≡ plain_body (One part)) where
+module _ (d : Declared) (part : held.Part) (valid : IsValid d) (accepted : first_refusal (declaration_of d) ≡ None) (is : plain_part part ≡ part_at (declaration_of d) 0) where
   only : (declaration_of d).parts ≡ plain_part part ∷ []
-  only = ap (λ (x : Declaration). x.parts) one
+  only = (whole d valid accepted).parts ∙ ap (λ (p : Part). p ∷ []) (sym is)
 
   no-conds : (declaration_of d).conds ≡ []
-  no-conds = ap (λ (x : Declaration). x.conds) one
+  no-conds = (whole d valid accepted).conds
 
   kept : KeepsRules (plain_part part)
   kept = subst (λ (ps : List Part). All KeepsRules ps) only (accepted-keeps (declaration_of d) accepted) 0 (plain_part part) (omega arith)
@@ -106,11 +105,4 @@ module _ (d : Declared) (part : held.Part) (valid : IsValid d) (accepted : first
   whole-buffers s m = sym (one-part s (declaration_of d) m (plain_part part) only no-conds (part-queries (plain_part part) kept))
 
   pub only-kinds : (kinds : List Kind) → kinds ≡ kinds_of (part_at (declaration_of d) 0) → kinds ≡ kinds_of (plain_part part)
-  only-kinds kinds e = e ∙ ap (λ (x : Declaration). kinds_of (part_at x 0)) one
-
--- a divided declaration is not accepted
-pub undivided : (d : Declared) (h : heads.Head) (first rest : held.Part) → first_refusal (declaration_of d) ≡ None → declaration_of d ≡ plain_body (Two h first rest) → ⊥
-undivided d h first rest accepted two =
-    let a = accepted-one d accepted in
-    let n : 2 ≡ 1 = sym (ap (λ (x : Declaration). length x.parts) two) ∙ ap length a.1 in
-    absurd (omega (arith, n))
+  only-kinds kinds e = e ∙ ap kinds_of (sym is)

@@ -2,7 +2,10 @@
 use Rattle.std.specs.Prelude.{ℕ, suc, ◌-◌, ◌^◌, min, ℤ, List, [], ◌∷◌, length, not, nat_eq, Option, Some, None}
 use Rattle.std.specs.Ordering.{int_eq}
 use Rattle.us_format.specs.Lists.{then_do, or_else, when, first_from, nth, cell}
-use Rattle.us_format.specs.Packs.{Buffer}
+use Rattle.us_format.specs.Packs.{Buffer, packed}
+use Rattle.us_format.specs.Matrix.{Shape, Entry}
+use Rattle.us_format.specs.Declaration.{Part, Declaration}
+use Rattle.us_format.specs.Buffers.{all_buffers, parts_of, piece_buffers}
 use Rattle.us_levels.specs.declared.differing.Difference.{Difference}
 use Rattle.us_levels.specs.declared.differing.Difference.TheVariants.{Cell, Long}
 
@@ -19,3 +22,11 @@ difference_at k b xs =
 abbrev pub first_difference : ℕ → List Buffer → List (List ℤ) → Option Difference
 first_difference k [] bufs = None
 first_difference k (b ∷ bs) bufs = or_else (difference_at k b (nth bufs k)) (first_difference (suc k) bs bufs)
+
+-- of the buffers of a part
+abbrev pub part_difference : Shape → Part → List Entry → List (List ℤ) → Option Difference
+part_difference s p m bufs = first_difference 0 (packed p (piece_buffers s p m)) bufs
+
+-- of the buffers of a matrix
+abbrev pub difference_of : Shape → Declaration → List Entry → List (List ℤ) → Option Difference
+difference_of s d m bufs = first_difference 0 (all_buffers s (parts_of s d m)) bufs

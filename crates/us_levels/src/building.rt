@@ -5,38 +5,25 @@ ghost use Rattle.us_format.specs.Buffers.{buffers, size};
 ghost use Rattle.us_format.specs.Meaning.{meaning};
 ghost use Rattle.us_format.specs.Reading.{limit};
 ghost use Rattle.us_build.specs.declared.fault.BuildFault.TheVariants.{TooLarge};
-ghost use Rattle.us_judge.specs.Format.{part_at};
-ghost use Rattle.us_judge.specs.Views.{declaration_of, plain_part, plain_body};
+ghost use Rattle.us_judge.specs.Views.{declaration_of};
 
 use std::alloc::{AllocError, Global};
 use us_build::{BuildFault, LIMIT, build_pieces, size_of_pieces};
-use us_decl::{Body, Part};
 use us_judge::Format;
 use us_layout::arrange;
 use us_matrix::{Buffers, Matrix};
-
-/// The part of an undivided body.
-fn part_of(body: &Body) -> &Part
-    ensures { plain_part result.now ≡ part_at (plain_body body.now) 0 }
-{
-    match body {
-        Body::One(part) => part,
-        Body::Two { first, .. } => first,
-    }
-}
 
 /// The size of a format on a matrix: the lengths of all buffers and the numbers of positions after each level, added
 /// up; 67108865 where it is above the limit of 67108864. No buffer is written.
 pub fn size_of(alloc: Global, format: &Format, matrix: &Matrix) -> Result<u64, AllocError>
     ensures { IfOk result (λ n. n ≡ min (size (shape_in matrix.now) (declaration_of format.now) (entries_in matrix.now)) (limit + 1)) }
 {
-    let decl = format.decl();
-    let part = part_of(&decl.body);
+    let part = format.part(1);
     let entries = matrix.entries();
     if entries.len() as u64 > LIMIT {
         return Ok(LIMIT + 1);
     }
-    let kinds = format.kinds(0);
+    let kinds = format.kinds(1);
     size_of_pieces(
         alloc,
         part.levels.as_slice(),
@@ -54,13 +41,12 @@ pub fn build_plain(alloc: Global, format: &Format, matrix: &Matrix) -> Result<Bu
     ensures small { OnOk result (size (shape_in matrix.now) (declaration_of format.now) (entries_in matrix.now) ≤ limit) }
     ensures large { IsErrOf result TooLarge → limit < size (shape_in matrix.now) (declaration_of format.now) (entries_in matrix.now) }
 {
-    let decl = format.decl();
-    let part = part_of(&decl.body);
+    let part = format.part(1);
     let entries = matrix.entries();
     if entries.len() as u64 > LIMIT {
         return Err(BuildFault::TooLarge);
     }
-    let kinds = format.kinds(0);
+    let kinds = format.kinds(1);
     let levels = part.levels.as_slice();
     let pieces = build_pieces(alloc, levels, kinds, matrix.shape(), entries)?;
     if part.packs.is_empty() {

@@ -1,13 +1,10 @@
 //! Comparing lists of cells with buffers.
-ghost use Rattle.std.specs.Prelude.{◌≡◌, ◌<◌, ◌≤◌, ◌+◌, ◌^◌, All, map, length, not, take, None, IfOk};
-ghost use Rattle.std.specs.List.{filter};
+ghost use Rattle.std.specs.Prelude.{◌≡◌, ◌<◌, ◌≤◌, ◌+◌, ◌^◌, map, length, take, None, IfOk};
 ghost use Rattle.std.specs.Ordering.{int_eq};
 ghost use Rattle.us_format.specs.Lists.{cell, nth};
-ghost use Rattle.us_format.specs.Packs.{CellsOf, is_packed};
-ghost use Rattle.us_judge.specs.Views.{column_of, plain_part};
-ghost use Rattle.us_layout.specs.Arranging.{list_of, plain_piece};
-ghost use Rattle.us_layout.specs.Interleaving.{interleaved_cells, HaveOneLength};
-ghost use Rattle.us_levels.specs.Lists.{list_difference, lists_difference, own_lists};
+ghost use Rattle.us_judge.specs.Views.{plain_part};
+ghost use Rattle.us_layout.specs.Arranging.{HaveOneLengthEach, plain_piece};
+ghost use Rattle.us_levels.specs.Lists.{list_difference, own_count, own_difference, packs_difference};
 
 use crate::differing::Difference;
 use std::alloc::{AllocError, Global};
@@ -76,7 +73,7 @@ fn buffer_difference(buffers: &Buffers, place: usize, want: &[i64]) -> Option<Di
 
 /// How many of some pieces no pack has.
 fn own_count(part: &Part, names: &[Piece]) -> usize
-    ensures { result ≡ length (filter (λ x. not (is_packed (plain_part part.now) x)) (map plain_piece names.now)) }
+    ensures { result ≡ own_count (plain_part part.now) (map plain_piece names.now) }
 {
     let mut count = 0;
     for name in names {
@@ -98,7 +95,8 @@ pub(crate) fn own_difference(
 ) -> Option<Difference>
     requires first { first ≤ length lists.now }
     requires few { length lists.now ≤ length names.now }
-    ensures { lists_difference 0 (own_lists (plain_part part.now) (map plain_piece names.now) (take first lists.now)) buffers.now ≡ None → result ≡ lists_difference 0 (own_lists (plain_part part.now) (map plain_piece names.now) lists.now) buffers.now }
+    ensures { own_difference (plain_part part.now) (map plain_piece names.now) (take first lists.now) buffers.now ≡ None
+        → result ≡ own_difference (plain_part part.now) (map plain_piece names.now) lists.now buffers.now }
 {
     let mut place = own_count(part, &names[..first]);
     for k in first..lists.count() {
@@ -125,8 +123,8 @@ fn packs_difference(
     buffers: &Buffers,
 ) -> Result<Option<Difference>, AllocError>
     requires room { first + length packs.now < 2 ^ 64 }
-    requires packs { All (λ pack. HaveOneLength (map (λ c. list_of (map plain_piece names.now) lists.now (CellsOf c)) (map column_of pack))) packs.now }
-    ensures { IfOk result (λ d. d ≡ lists_difference first (map (λ pack. interleaved_cells (map (λ c. list_of (map plain_piece names.now) lists.now (CellsOf c)) (map column_of pack))) packs.now) buffers.now) }
+    requires packs { HaveOneLengthEach (map plain_piece names.now) lists.now packs.now }
+    ensures { IfOk result (λ d. d ≡ packs_difference first (map plain_piece names.now) lists.now packs.now buffers.now) }
 {
     let mut place = first;
     for pack in packs {
@@ -150,8 +148,9 @@ pub(crate) fn pack_difference(
     buffers: &Buffers,
 ) -> Result<Option<Difference>, AllocError>
     requires few { length names.now < 2 ^ 62 }
-    requires packs { All (λ pack. HaveOneLength (map (λ c. list_of (map plain_piece names.now) lists.now (CellsOf c)) (map column_of pack))) part.now.packs }
-    ensures { IfOk result (λ d. d ≡ lists_difference (length (filter (λ x. not (is_packed (plain_part part.now) x)) (map plain_piece names.now))) (map (λ pack. interleaved_cells (map (λ c. list_of (map plain_piece names.now) lists.now (CellsOf c)) (map column_of pack))) part.now.packs) buffers.now) }
+    requires packs { HaveOneLengthEach (map plain_piece names.now) lists.now part.now.packs }
+    ensures { IfOk result (λ d. let first = own_count (plain_part part.now) (map plain_piece names.now) in
+        d ≡ packs_difference first (map plain_piece names.now) lists.now part.now.packs buffers.now) }
 {
     let first = own_count(part, names);
     packs_difference(alloc, part.packs.as_slice(), first, names, lists, buffers)

@@ -1,20 +1,17 @@
 //! The first difference of given buffers from those of a matrix.
 ghost use Rattle.std.specs.Prelude.{◌≡◌, ◌<◌, ◌≤◌, Some, true, length, IfOk};
 ghost use Rattle.us_format.specs.Program.{shape_in, entries_in};
-ghost use Rattle.us_format.specs.Buffers.{all_buffers, parts_of, piece_buffers};
 ghost use Rattle.us_format.specs.Meaning.{meaning};
 ghost use Rattle.us_format.specs.Reading.{limit, fits, size_in};
-ghost use Rattle.us_format.specs.Packs.{packed};
-ghost use Rattle.us_judge.specs.Format.{part_at};
 ghost use Rattle.us_judge.specs.Kinds.{kinds_of};
 ghost use Rattle.us_judge.specs.Views.{declaration_of, plain_part};
 ghost use Rattle.us_levels.specs.Comparable.{IsComparable};
-ghost use Rattle.us_levels.specs.Differences.{first_difference};
+ghost use Rattle.us_levels.specs.Differences.{difference_of, part_difference};
 
 use crate::comparing::{own_difference, pack_difference};
 use std::alloc::{AllocError, Global};
 use us_build::Walk;
-use us_decl::{Body, Part};
+use us_decl::Part;
 use us_judge::{Format, Kind};
 use us_layout::pieces_of;
 use us_matrix::{Buffers, Matrix};
@@ -48,7 +45,7 @@ fn part_difference(
 ) -> Result<Option<Difference>, AllocError>
     requires kinds { kinds.now ≡ kinds_of (plain_part part.now) }
     requires comparable { IsComparable (shape_in matrix.now) (plain_part part.now) (entries_in matrix.now) buffers.now }
-    ensures { IfOk result (λ d. d ≡ first_difference 0 (packed (plain_part part.now) (piece_buffers (shape_in matrix.now) (plain_part part.now) (entries_in matrix.now))) buffers.now) }
+    ensures { IfOk result (λ d. d ≡ part_difference (shape_in matrix.now) (plain_part part.now) (entries_in matrix.now) buffers.now) }
 {
     let names = pieces_of(alloc, kinds)?;
     let levels = part.levels.as_slice();
@@ -86,11 +83,8 @@ pub fn differs(
     requires fitting { fits (shape_in matrix.now) (declaration_of format.now) buffers.now ≡ true }
     requires within { size_in (shape_in matrix.now) (declaration_of format.now) buffers.now ≤ limit }
     requires means { meaning (shape_in matrix.now) (declaration_of format.now) buffers.now ≡ Some (entries_in matrix.now) }
-    ensures { IfOk result (λ d. d ≡ first_difference 0 (all_buffers (shape_in matrix.now) (parts_of (shape_in matrix.now) (declaration_of format.now) (entries_in matrix.now))) buffers.now) }
+    ensures { IfOk result (λ d. d ≡ difference_of (shape_in matrix.now) (declaration_of format.now) (entries_in matrix.now) buffers.now) }
 {
-    match &format.decl().body {
-        Body::One(part) => part_difference(alloc, part, format.kinds(0), matrix, buffers),
-        // no divided declaration is accepted yet
-        Body::Two { .. } => Ok(None),
-    }
+    // an accepted format has one part as yet
+    part_difference(alloc, format.part(1), format.kinds(1), matrix, buffers)
 }

@@ -1,4 +1,5 @@
-//! The buffers of a matrix in a format: their size, the plain builder, and the first difference of given buffers from them.
+//! The buffers of a matrix in a format: their size, the plain builder, the first difference of given buffers from them, and the
+//! climb from a position to its coordinate, which `us_climb` has.
 //!
 //! What all of these mean stands in `us_format`; this crate says it of formats and matrices of the program.
 #![tactic(auto)]
@@ -10,8 +11,4 @@ mod differing;
 pub use building::{build_plain, size_of};
 pub use differing::{Difference, differs};
 pub use us_build::BuildFault;
-
-#[cfg(test)]
-mod difference_tests;
-#[cfg(test)]
-mod tests;
+pub use us_climb::climb;

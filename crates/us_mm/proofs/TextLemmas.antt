@@ -13,9 +13,13 @@ use Rattle.us_matrix.specs.Map.{Map, IsSide, IsMatrix, IsEntry, AreEntries, matr
 use Rattle.us_matrix.proofs.EntriesOf.{matrix_of-entries}
 use Rattle.us_mm.specs.Lines.{lines, kept, is_blank, is_skipped}
 use Rattle.us_mm.specs.Words.{words, size_of, value_of, is_value}
-use Rattle.us_mm.specs.Reads.{◌>>=◌, each, entry_of, entry_words, entry_numbers, sizes_of, size_words, size_numbers, Sizes, Reading, matrix_in, reading_of, read_lines, read_sized, read_entries, no_more, header_of}
+use Rattle.us_mm.specs.Reads.{◌>>=◌, each, entry_of, integer_words, entry_numbers, sizes_of, size_words, size_numbers, Sizes, matrix_in, reading_of, read_lines, read_sized, read_entries, wanted, no_more, header_of}
 use Rattle.us_mm.specs.declared.fault.MmFault.TheVariants.{SizeLine, EntryLine, Missing, OutOfShape, ValueRange}
 use Rattle.us_mm.specs.declared.fault.MmFault.{MmFault}
+use Rattle.us_mm.specs.declared.form.Field.TheVariants.{Integer}
+use Rattle.us_mm.specs.declared.form.Symmetry.TheVariants.{General}
+use Rattle.us_mm.specs.declared.form.Form.{Form}
+use Rattle.us_mm.specs.Forms.{stands_for}
 use Rattle.us_mm.specs.Text.{text, line_of, entry_line}
 use Rattle.us_mm.proofs.LineLemmas.{lines_first, lines-nil, kept_line, kept-nil}
 use Rattle.us_mm.proofs.WordLemmas.{words_first, words_blank, words-nil}
@@ -104,6 +108,18 @@ signed_word v f = record {
   percents = signed_clear (λ b. b == 37) digit_percent refl v f;
 }
 
+-- the header of a canonical text, and the numbers of its size line
+abbrev plain : Form
+plain = record { field = Integer; symmetry = General }
+
+abbrev general : ℕ → ℕ → ℕ → Sizes
+general rows cols l = record { form = plain; rows = rows; cols = cols; count = l }
+
+-- an entry of a general file stands for itself alone
+own_triples : (ts : List Triple) → flat_map (stands_for General) ts ≡ ts
+own_triples [] = refl
+own_triples (t ∷ ts) = ap (λ l. t ∷ l) (own_triples ts)
+
 abbrev pub entry_bare : Triple → List ℕ
 entry_bare t = bare (decimal (t.i + 1)) (decimal (t.j + 1)) (signed_decimal t.v)
 
@@ -113,7 +129,7 @@ three_true a b c p q r = rw (p, q, r) refl
 inside_true : (i j rows cols : ℕ) → i < rows → j < cols → (nat_le 1 (i + 1) && nat_le (i + 1) rows && (nat_le 1 (j + 1) && nat_le (j + 1) cols)) ≡ true
 inside_true i j rows cols row col = grind (arith, nat_tests)
 
-numbers_read : (n rows cols : ℕ) (t : Triple) → t.i < rows → t.j < cols → is_value t.v ≡ true → entry_numbers n rows cols (t.i + 1) (t.j + 1) t.v ≡ Ok t
+numbers_read : (n rows cols : ℕ) (t : Triple) → t.i < rows → t.j < cols → is_value t.v ≡ true → entry_numbers General n rows cols (t.i + 1) (t.j + 1) t.v ≡ Ok t
 numbers_read n rows cols t row col fits =
     let first : t.i + 1 - 1 ≡ t.i = omega arith in
     let second : t.j + 1 - 1 ≡ t.j = omega arith in
@@ -128,9 +144,9 @@ value_fits : (v : ℤ) → FitsSigned w64 v → is_value v ≡ true
 value_fits (pos n) f = let lt : n < 2 ^ 63 = omega (arith, f.sfits) in test_true n (2 ^ 63) lt
 value_fits (negsuc n) f = let lt : n < 2 ^ 63 = omega (arith, f.sfits) in test_true n (2 ^ 63) lt
 
-entry_read : (n rows cols : ℕ) (t : Triple) → rows < 2 ^ 31 → cols < 2 ^ 31 → IsEntry rows cols t → entry_of rows cols (n, entry_bare t) ≡ Ok t
+entry_read : (n rows cols l : ℕ) (t : Triple) → rows < 2 ^ 31 → cols < 2 ^ 31 → IsEntry rows cols t → entry_of (general rows cols l) (n, entry_bare t) ≡ Ok t
 unfolding entry_of
-entry_read n rows cols t rs cs e =
+entry_read n rows cols l t rs cs e =
     let row : t.i < rows = e.row in
     let col : t.j < cols = e.col in
     let si : t.i + 1 < 2 ^ 64 = omega arith in
@@ -138,18 +154,18 @@ entry_read n rows cols t rs cs e =
     let wi = size_word_decimal (t.i + 1) si in
     let wj = size_word_decimal (t.j + 1) sj in
     let wv = value_word_decimal t.v e.fits in
-    ap (entry_words n rows cols) (words_bare _ _ _ (decimal_word (t.i + 1) si) (decimal_word (t.j + 1) sj) (signed_word t.v e.fits))
-    ∙ ap (λ b. cond b (entry_numbers n rows cols (size_of (decimal (t.i + 1))) (size_of (decimal (t.j + 1))) (value_of (signed_decimal t.v))) (Err (EntryLine n))) (three_true _ _ _ wi.0 wj.0 wv.0)
-    ∙ ap (λ x. entry_numbers n rows cols x (size_of (decimal (t.j + 1))) (value_of (signed_decimal t.v))) wi.1
-    ∙ ap (λ x. entry_numbers n rows cols (t.i + 1) x (value_of (signed_decimal t.v))) wj.1
-    ∙ ap (entry_numbers n rows cols (t.i + 1) (t.j + 1)) wv.1
+    ap (integer_words General n rows cols) (words_bare _ _ _ (decimal_word (t.i + 1) si) (decimal_word (t.j + 1) sj) (signed_word t.v e.fits))
+    ∙ ap (λ b. cond b (entry_numbers General n rows cols (size_of (decimal (t.i + 1))) (size_of (decimal (t.j + 1))) (value_of (signed_decimal t.v))) (Err (EntryLine n))) (three_true _ _ _ wi.0 wj.0 wv.0)
+    ∙ ap (λ x. entry_numbers General n rows cols x (size_of (decimal (t.j + 1))) (value_of (signed_decimal t.v))) wi.1
+    ∙ ap (λ x. entry_numbers General n rows cols (t.i + 1) x (value_of (signed_decimal t.v))) wj.1
+    ∙ ap (entry_numbers General n rows cols (t.i + 1) (t.j + 1)) wv.1
     ∙ numbers_read n rows cols t row col (value_fits t.v e.fits)
 
-each_read : (n rows cols : ℕ) (ts : List Triple) → rows < 2 ^ 31 → cols < 2 ^ 31 → AreEntries rows cols ts → each (entry_of rows cols) (enumerate_from n (map entry_bare ts)) ≡ Ok ts
-each_read n rows cols [] rs cs e = refl
-each_read n rows cols (t ∷ ts) rs cs e =
-    ap (λ r. r >>= λ y. each (entry_of rows cols) (enumerate_from (n + 1) (map entry_bare ts)) >>= λ ys. Ok (y ∷ ys)) (entry_read n rows cols t rs cs e.0)
-    ∙ ap (λ r. r >>= λ ys. Ok (t ∷ ys)) (each_read (n + 1) rows cols ts rs cs e.1)
+each_read : (n rows cols l : ℕ) (ts : List Triple) → rows < 2 ^ 31 → cols < 2 ^ 31 → AreEntries rows cols ts → each (entry_of (general rows cols l)) (enumerate_from n (map entry_bare ts)) ≡ Ok ts
+each_read n rows cols l [] rs cs e = refl
+each_read n rows cols l (t ∷ ts) rs cs e =
+    ap (λ r. r >>= λ y. each (entry_of (general rows cols l)) (enumerate_from (n + 1) (map entry_bare ts)) >>= λ ys. Ok (y ∷ ys)) (entry_read n rows cols l t rs cs e.0)
+    ∙ ap (λ r. r >>= λ ys. Ok (t ∷ ys)) (each_read (n + 1) rows cols l ts rs cs e.1)
 
 lines_entries : (rows cols : ℕ) (ts : List Triple) → rows < 2 ^ 31 → cols < 2 ^ 31 → AreEntries rows cols ts → lines (flat_map entry_line ts) ≡ map entry_bare ts
 lines_entries rows cols [] rs cs e = lines-nil
@@ -170,7 +186,7 @@ kept_entries n rows cols (t ∷ ts) rs cs e =
     kept_line n (entry_bare t) (map entry_bare ts) (not_skipped (decimal (t.i + 1)) (32 ∷ (decimal (t.j + 1) ++ 32 ∷ signed_decimal t.v)) (decimal_word (t.i + 1) (omega arith)))
     ∙ ap (λ ls. (n, entry_bare t) ∷ ls) (kept_entries (n + 1) rows cols ts rs cs e.1)
 
-sizes_pass : (n rows cols count : ℕ) → IsSide rows → IsSide cols → count ≤ 8388608 → size_numbers n rows cols count ≡ Ok (record { rows = rows; cols = cols; count = count })
+sizes_pass : (n rows cols count : ℕ) → IsSide rows → IsSide cols → count ≤ 8388608 → size_numbers plain n rows cols count ≡ Ok (general rows cols count)
 sizes_pass n rows cols count r c le =
     let low_r : 1 ≤ rows = r.low in
     let high_r : rows < 2 ^ 31 = r.high in
@@ -178,7 +194,7 @@ sizes_pass n rows cols count r c le =
     let high_c : cols < 2 ^ 31 = c.high in
     grind (arith, nat_tests)
 
-sizes_read : (n rows cols count : ℕ) → IsSide rows → IsSide cols → count ≤ 8388608 → sizes_of (n, bare (decimal rows) (decimal cols) (decimal count)) ≡ Ok (record { rows = rows; cols = cols; count = count })
+sizes_read : (n rows cols count : ℕ) → IsSide rows → IsSide cols → count ≤ 8388608 → sizes_of plain (n, bare (decimal rows) (decimal cols) (decimal count)) ≡ Ok (general rows cols count)
 unfolding sizes_of
 sizes_read n rows cols count r c le =
     let sr : rows < 2 ^ 64 = omega (arith, r.high) in
@@ -187,11 +203,11 @@ sizes_read n rows cols count r c le =
     let wr = size_word_decimal rows sr in
     let wc = size_word_decimal cols sc in
     let wn = size_word_decimal count sn in
-    ap (size_words n) (words_bare _ _ _ (decimal_word rows sr) (decimal_word cols sc) (decimal_word count sn))
-    ∙ ap (λ b. cond b (size_numbers n (size_of (decimal rows)) (size_of (decimal cols)) (size_of (decimal count))) (Err (SizeLine n))) (three_true _ _ _ wr.0 wc.0 wn.0)
-    ∙ ap (λ x. size_numbers n x (size_of (decimal cols)) (size_of (decimal count))) wr.1
-    ∙ ap (λ x. size_numbers n rows x (size_of (decimal count))) wc.1
-    ∙ ap (size_numbers n rows cols) wn.1
+    ap (size_words plain n) (words_bare _ _ _ (decimal_word rows sr) (decimal_word cols sc) (decimal_word count sn))
+    ∙ ap (λ b. cond b (size_numbers plain n (size_of (decimal rows)) (size_of (decimal cols)) (size_of (decimal count))) (Err (SizeLine n))) (three_true _ _ _ wr.0 wc.0 wn.0)
+    ∙ ap (λ x. size_numbers plain n x (size_of (decimal cols)) (size_of (decimal count))) wr.1
+    ∙ ap (λ x. size_numbers plain n rows x (size_of (decimal count))) wc.1
+    ∙ ap (size_numbers plain n rows cols) wn.1
     ∙ sizes_pass n rows cols count r c le
 
 length-numbered : (n : ℕ) (ts : List Triple) → length (enumerate_from n (map entry_bare ts)) ≡ length ts
@@ -201,23 +217,28 @@ length-numbered n (t ∷ ts) = ap suc (length-numbered (n + 1) ts)
 not_short : (a b : ℕ) → a ≡ b → nat_lt a b ≡ false
 not_short a b h = grind (arith, nat_tests)
 
+wanted_read : {A : Type 0} (f : ℕ × List ℕ → Result A MmFault) (count : ℕ) (ls : List (ℕ × List ℕ)) (xs : List A) → length ls ≡ count → each f ls ≡ Ok xs → wanted f count ls ≡ Ok xs
+unfolding wanted
+wanted_read {A} f count ls xs len h =
+    let rest : List A → Result (List A) MmFault = λ ys. cond (nat_lt (length ls) count) (Err (Missing (length ls) count)) (no_more (drop count ls) ys) in
+    ap (λ l. each f l >>= rest) (take_all count ls (omega arith))
+    ∙ ap (λ r. r >>= rest) h
+    ∙ ap (λ b. cond b (Err (Missing (length ls) count)) (no_more (drop count ls) xs)) (not_short _ _ len)
+    ∙ ap (λ l. no_more l xs) (drop_all count ls (omega arith))
+
 entries_read : (n rows cols : ℕ) (ts : List Triple) → rows < 2 ^ 31 → cols < 2 ^ 31 → AreEntries rows cols ts
-    → read_entries (enumerate_from n (map entry_bare ts)) (record { rows = rows; cols = cols; count = length ts }) ≡ Ok (record { rows = rows; cols = cols; triples = ts })
+    → read_entries (enumerate_from n (map entry_bare ts)) (general rows cols (length ts)) ≡ Ok ts
 unfolding read_entries
 entries_read n rows cols ts rs cs e =
     let ls = enumerate_from n (map entry_bare ts) in
-    let len : length ls ≡ length ts = length-numbered n ts in
-    let s : Sizes = record { rows = rows; cols = cols; count = length ts } in
-    let rest : List Triple → Result Reading MmFault = λ us. cond (nat_lt (length ls) (length ts)) (Err (Missing (length ls) (length ts))) (no_more (drop (length ts) ls) us s) in
-    ap (λ l. each (entry_of rows cols) l >>= rest) (take_all (length ts) ls (omega arith))
-    ∙ ap (λ r. r >>= rest) (each_read n rows cols ts rs cs e)
-    ∙ ap (λ b. cond b (Err (Missing (length ls) (length ts))) (no_more (drop (length ts) ls) ts s)) (not_short _ _ len)
-    ∙ ap (λ l. no_more l ts s) (drop_all (length ts) ls (omega arith))
+    ap (λ r. r >>= λ us. Ok (flat_map (stands_for General) us))
+    (wanted_read (entry_of (general rows cols (length ts))) (length ts) ls ts (length-numbered n ts) (each_read n rows cols (length ts) ts rs cs e))
+    ∙ ap Ok (own_triples ts)
 
 abbrev banner : List ℕ
 banner = codes "%%MatrixMarket matrix coordinate integer general"
 
-header_read : header_of banner ≡ Ok tt
+header_read : header_of banner ≡ Ok plain
 unfolding header_of words
 header_read = refl
 
@@ -239,10 +260,10 @@ text_read m im le =
     let body = size ∷ map entry_bare m.entries in
     let skip = not_skipped (decimal m.rows) (32 ∷ (decimal m.cols ++ 32 ∷ decimal (length m.entries))) (decimal_word m.rows (omega (arith, im.rows.high))) in
     ap read_lines (text_lines m im le)
-    ∙ ap (λ r. r >>= λ _. read_sized (length body + 1) (kept 2 body)) header_read
-    ∙ ap (read_sized (length body + 1)) (kept_line 2 size (map entry_bare m.entries) skip ∙ ap (λ ls. (2, size) ∷ ls) (kept_entries 3 m.rows m.cols m.entries im.rows.high im.cols.high im.entries))
-    ∙ ap (λ r. r >>= read_entries (enumerate_from 3 (map entry_bare m.entries))) (sizes_read 2 m.rows m.cols (length m.entries) im.rows im.cols le)
-    ∙ entries_read 3 m.rows m.cols m.entries im.rows.high im.cols.high im.entries
+    ∙ ap (λ r. r >>= λ form. read_sized form (length body + 1) (kept 2 body)) header_read
+    ∙ ap (read_sized plain (length body + 1)) (kept_line 2 size (map entry_bare m.entries) skip ∙ ap (λ ls. (2, size) ∷ ls) (kept_entries 3 m.rows m.cols m.entries im.rows.high im.cols.high im.entries))
+    ∙ ap (λ r. r >>= λ s. read_entries (enumerate_from 3 (map entry_bare m.entries)) s >>= λ ts. Ok (record { rows = s.rows; cols = s.cols; triples = ts })) (sizes_read 2 m.rows m.cols (length m.entries) im.rows im.cols le)
+    ∙ ap (λ r. r >>= λ ts. Ok (record { rows = m.rows; cols = m.cols; triples = ts })) (entries_read 3 m.rows m.cols m.entries im.rows.high im.cols.high im.entries)
 
 pub text_reads : (m : Map) → IsMatrix m → length m.entries ≤ 8388608 → matrix_in (text m) ≡ Ok m
 text_reads m im le =

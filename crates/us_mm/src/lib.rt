@@ -1,8 +1,12 @@
-//! Matrix files of whole numbers in coordinate form: the reader, and the canonical text.
+//! Matrix files of whole numbers: the reader, and the canonical texts.
 #![tactic(auto)]
 
+mod array_reader;
+mod array_writer;
+mod arrays;
 mod entries;
 mod fault;
+mod form;
 mod header;
 mod laws;
 mod lines;
@@ -10,11 +14,10 @@ mod reader;
 mod words;
 mod writer;
 
+pub use array_reader::read_array;
+pub use array_writer::write_array;
 pub use fault::MmFault;
 pub use laws::text_reads;
 pub use reader::read_coordinate;
 pub use words::number_of;
 pub use writer::write_coordinate;
-
-#[cfg(test)]
-mod tests;

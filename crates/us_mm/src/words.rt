@@ -45,6 +45,18 @@ fn word_end(line: &[u8]) -> usize
     line.len()
 }
 
+/// The two words of a line, where it has two.
+pub fn two_words(line: &[u8]) -> Option<(&[u8], &[u8])>
+    ensures { MatchOption result (length (words line.now) ≢ 2) (λ r. words line.now ≡ r.0.now ∷ r.1.now ∷ []) }
+{
+    let (first, rest) = next_word(line)?;
+    let (second, rest) = next_word(rest)?;
+    match next_word(rest) {
+        None => Some((first, second)),
+        Some(_) => None,
+    }
+}
+
 /// The three words of a line, where it has three.
 pub fn three_words(line: &[u8]) -> Option<(&[u8], &[u8], &[u8])>
     ensures { MatchOption result (length (words line.now) ≢ 3) (λ r. words line.now ≡ r.0.now ∷ r.1.now ∷ r.2.now ∷ []) }

@@ -15,7 +15,7 @@ use Rattle.us_decl.specs.declared.column.Column.{Column}
 use Rattle.us_decl.specs.declared.column.Column.TheVariants.{Level, Val}
 use Rattle.us_decl.specs.Grammar.{Comma, Only, And, Run, Empty, Then, Expr, One, Plus, Less, Term, Just, Over, Rest, Factor, Row, Col, Named, Num, Group, Sum, Enumerate, Reorder, Query, Single, Lanes, Part, Head, Body, Whole, Split, Decl, expr_tokens, term_tokens, comma_tokens, run_tokens, query_tokens, queries_tokens, levels_tokens, map_tokens, number_tokens, numbers_tokens, column_tokens, pack_tokens, part_tokens, sign_token, head_tokens, body_tokens}
 use Rattle.us_decl.specs.Words.{language, symbol, keyword, word_lexeme, is_name, is_free, every}
-use Rattle.us_decl.specs.Machine.{reader}
+use Rattle.us_parse.specs.Machine.{reader}
 use Rattle.us_decl.specs.Names.{number_of, names_part, names_head, names_queries, names_levels}
 use Rattle.us_decl.specs.Limits.{all, all_run, nodes, count, count_run, count_levels, all_levels, fits_number, fits_numbers, fits_name, fits_names, fits_nodes, fits_list, fits_expr, fits_term, fits_factor, fits_whole, fits_query, fits_queries, fits_levels, fits_column, fits_pack, fits_packs, fits_part, fits_head, fits_body, fits_decl}
 use Rattle.us_decl.specs.Declares.{tree_expr, tree_term, tree_factor, query_of, comma_items, run_items, maybe_items, part_of, head_of, body_of, declared}

@@ -10,14 +10,14 @@ use Rattle.us_decl.specs.declared.column.Column.TheVariants.{Level, Val}
 use Rattle.us_decl.specs.Grammar.{Comma, Run, Empty, Then, Expr, Term, Just, Row, Col, Named, Num, Group, Word, Query, Single, Lanes, Part, Split, Decl, decl_tokens}
 use Rattle.us_decl.specs.Names.{with_name, names_queries, names_levels, names_comma, names_expr, names_term, names_query}
 use Rattle.us_decl.specs.Limits.{count, count_run, count_levels, nodes, nodes_term, all, all_run, all_levels, fits_nodes, fits_list, fits_number, fits_name, fits_names, fits_expr, fits_term, fits_whole, fits_query, fits_queries, fits_levels, fits_numbers, fits_column, fits_pack, fits_packs, fits_part, fits_head, fits_decl}
-use Rattle.us_decl.specs.Piece.{Before, BehindName, BehindHead, BehindFirst, OneVariable, TwoVariables, Use, Argument, Mapped, Hole, Begin, AfterPlus, AfterMinus, Piece, AtFormat, AtName, AtBrace, Between, AtVariable, AfterVariable, AtWord, AtSlot, AtEqual, AtSchedule, AtArgument, Operand, Divisor, After, AtInto, AtLanes, AtMap, AtLevels, Tail, AtTrim, AtMerge, AtPack, AtColumn, AfterColumn, AtWhen, AtCondition, AtSign, AtBound, AtFirst, AtRest, AtSecond, AtEnd, Done, expect, a_name, a_number, one_more, headed, between, after_variable, a_word, filled, operand, divided, divisor, ended, closed, parted, after, at_levels, finished, more_numbers, a_trim, a_merge, tail, trimmed, merged, a_column, after_column, a_sign, head_of, step}
-use Rattle.us_decl.specs.Within.{fits_before, fits_front, fits_begun, fits_one, fits_two, names_use, fits_use, names_hole, names_open, nodes_hole, held, fits_hole, fits_open, begun, fits_inside, fits_behind, fits_lanes, fits_columns, fits_packing, fits}
-use Rattle.us_decl.specs.Within.{check, repeats, TooBig}
-use Rattle.us_decl.specs.Machine.{reader}
+use Rattle.us_parse.specs.Piece.{Before, BehindName, BehindHead, BehindFirst, OneVariable, TwoVariables, Use, Argument, Mapped, Hole, Begin, AfterPlus, AfterMinus, Piece, AtFormat, AtName, AtBrace, Between, AtVariable, AfterVariable, AtWord, AtSlot, AtEqual, AtSchedule, AtArgument, Operand, Divisor, After, AtInto, AtLanes, AtMap, AtLevels, Tail, AtTrim, AtMerge, AtPack, AtColumn, AfterColumn, AtWhen, AtCondition, AtSign, AtBound, AtFirst, AtRest, AtSecond, AtEnd, Done, expect, a_name, a_number, one_more, headed, between, after_variable, a_word, filled, operand, divided, divisor, ended, closed, parted, after, at_levels, finished, more_numbers, a_trim, a_merge, tail, trimmed, merged, a_column, after_column, a_sign, head_of, step}
+use Rattle.us_parse.specs.Within.{fits_before, fits_front, fits_begun, fits_one, fits_two, names_use, fits_use, names_hole, names_open, nodes_hole, held, fits_hole, fits_open, begun, fits_inside, fits_behind, fits_lanes, fits_columns, fits_packing, fits}
+use Rattle.us_parse.specs.Within.{check, repeats, TooBig}
+use Rattle.us_parse.specs.Machine.{reader}
 use Rattle.us_tokens.specs.Reading.{Keeps}
 use Rattle.us_tokens.proofs.Reading.{run-append}
-use Rattle.us_decl.proofs.Run.{run, go_on}
-use Rattle.us_decl.proofs.Complete.{reads_decl}
+use Rattle.us_parse.proofs.Run.{run, go_on}
+use Rattle.us_parse.proofs.Complete.{reads_decl}
 use Rattle.us_decl.proofs.Numbering.{GoesOn, goes_on_self, with_goes_on, expr_goes_on, term_goes_on}
 use Rattle.us_decl.proofs.Deciding.{both, left_of, right_of, below, is_below}
 

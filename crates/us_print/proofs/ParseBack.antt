@@ -5,17 +5,17 @@ use Rattle.us_tokens.specs.Text.{Text}
 use Rattle.us_tokens.specs.Reading.{Answer, Read, NoToken, Form, Broken, scan}
 use Rattle.us_decl.specs.declared.lexeme.Lexeme.{Lexeme}
 use Rattle.us_decl.specs.declared.decl.Decl.{Decl as Value}
-use Rattle.us_decl.specs.declared.parsed.OneDecl.{OneDecl}
-use Rattle.us_decl.specs.declared.parsed.DeclFault.{DeclFault}
-use Rattle.us_decl.specs.declared.parsed.DeclFault.TheVariants as fault
+use Rattle.us_parse.specs.declared.parsed.OneDecl.{OneDecl}
+use Rattle.us_parse.specs.declared.parsed.DeclFault.{DeclFault}
+use Rattle.us_parse.specs.declared.parsed.DeclFault.TheVariants as fault
 use Rattle.us_decl.specs.Grammar.{Decl}
-use Rattle.us_decl.specs.Piece.{AtFormat}
-use Rattle.us_decl.specs.Machine.{reader}
-use Rattle.us_decl.specs.Within.{Break}
+use Rattle.us_parse.specs.Piece.{AtFormat}
+use Rattle.us_parse.specs.Machine.{reader}
+use Rattle.us_parse.specs.Within.{Break}
 use Rattle.us_decl.specs.Declares.{IsValid, declared}
 use Rattle.us_decl.specs.Views.{decl_view}
 use Rattle.us_print.specs.Canon.{decl_text, open_text}
-use Rattle.us_decl.specs.Parses.{tokens_of, ParsesOne, TellsOneResult}
+use Rattle.us_parse.specs.Parses.{tokens_of, ParsesOne, TellsOneResult}
 use Rattle.us_print.specs.ReadBack.{IsReadBack, GivesBack, ParseBackLaw}
 use Rattle.us_print.proofs.RoundTrip.{read_back}
 use Rattle.us_print.proofs.ViewTells.{view_tells}

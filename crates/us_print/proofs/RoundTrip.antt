@@ -10,14 +10,14 @@ use Rattle.us_decl.specs.declared.lexeme.Lexeme.{Lexeme}
 use Rattle.us_decl.specs.declared.lexeme.Lexeme.TheVariants as lexeme
 use Rattle.us_decl.specs.Words.{language}
 use Rattle.us_decl.specs.Grammar.{Decl, decl_tokens, body_tokens}
-use Rattle.us_decl.specs.Piece.{AtFormat}
-use Rattle.us_decl.specs.Machine.{reader}
-use Rattle.us_decl.specs.Within.{Break}
+use Rattle.us_parse.specs.Piece.{AtFormat}
+use Rattle.us_parse.specs.Machine.{reader}
+use Rattle.us_parse.specs.Within.{Break}
 use Rattle.us_decl.specs.Limits.{fits_decl}
 use Rattle.us_decl.specs.Declares.{declared}
 use Rattle.us_print.specs.Canon.{decl_text, open_text}
 use Rattle.us_print.specs.ReadBack.{ReadBackLaw, CanonLaw}
-use Rattle.us_decl.proofs.Held.{held}
+use Rattle.us_parse.proofs.Held.{held}
 use Rattle.us_print.proofs.Kept.{keeps}
 use Rattle.us_print.proofs.Plain.{plain_decl, plain_body, declared_plain, fits_plain_decl}
 use Rattle.us_print.proofs.CanonTokens.{open_lies}

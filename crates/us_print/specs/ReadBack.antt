@@ -4,16 +4,16 @@ use Rattle.us_tokens.specs.Lex.{lexed, Between}
 use Rattle.us_tokens.specs.Reading.{scan, Read}
 use Rattle.us_decl.specs.Words.{language}
 use Rattle.us_decl.specs.Grammar.{Decl}
-use Rattle.us_decl.specs.Piece.{AtFormat}
-use Rattle.us_decl.specs.Machine.{reader}
+use Rattle.us_parse.specs.Piece.{AtFormat}
+use Rattle.us_parse.specs.Machine.{reader}
 use Rattle.us_decl.specs.Declares.{Declared, IsValid, declared}
 use Rattle.us_print.specs.Canon.{decl_text}
 use Rattle.us_decl.specs.declared.decl.Decl.{Decl as Value}
-use Rattle.us_decl.specs.declared.parsed.OneDecl.{OneDecl}
-use Rattle.us_decl.specs.declared.parsed.DeclFault.{DeclFault}
-use Rattle.us_decl.specs.declared.parsed.DeclFault.TheVariants as fault
+use Rattle.us_parse.specs.declared.parsed.OneDecl.{OneDecl}
+use Rattle.us_parse.specs.declared.parsed.DeclFault.{DeclFault}
+use Rattle.us_parse.specs.declared.parsed.DeclFault.TheVariants as fault
 use Rattle.us_decl.specs.Views.{decl_view}
-use Rattle.us_decl.specs.Parses.{ParsesOne}
+use Rattle.us_parse.specs.Parses.{ParsesOne}
 
 -- in front of these bytes the canonical text is read as a text that declares d, up to the last brace, behind which the line ends
 pub record IsReadBack (d : Declared) (rest : List ℕ) : Type 0 where

@@ -6,6 +6,3 @@ mod printing;
 
 pub use laws::{canonical_text_reads_back, canonical_texts_differ, parse_one_reads_back};
 pub use printing::print_decl;
-
-#[cfg(test)]
-mod tests;

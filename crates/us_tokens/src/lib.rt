@@ -13,6 +13,3 @@ mod next;
 pub use cursor::Cursor;
 pub use kind::Kind;
 pub use next::Next;
-
-#[cfg(test)]
-mod tests;

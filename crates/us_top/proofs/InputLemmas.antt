@@ -11,13 +11,13 @@ use Rattle.us_mm.specs.declared.fault.MmFault.TheVariants as mm
 use Rattle.us_mm.specs.Reads.{matrix_in}
 use Rattle.us_mm.specs.Views.{IsFaultOf, Gives}
 use Rattle.us_decl.specs.declared.library.Library.{Library}
-use Rattle.us_decl.specs.declared.parsed.DeclFault.{DeclFault}
-use Rattle.us_decl.specs.declared.parsed.DeclFault.TheVariants as decl
+use Rattle.us_parse.specs.declared.parsed.DeclFault.{DeclFault}
+use Rattle.us_parse.specs.declared.parsed.DeclFault.TheVariants as decl
 use Rattle.us_decl.specs.Grammar.{Run, Empty, Then, Whole}
 use Rattle.us_decl.specs.Grammar as grammar
 use Rattle.us_decl.specs.Limits.{fits_decl, all_run}
 use Rattle.us_decl.specs.Declares.{Declared, declared, run_items, IsValid}
-use Rattle.us_decl.specs.Parses.{ParsesLibrary}
+use Rattle.us_parse.specs.Parses.{ParsesLibrary}
 use Rattle.us_decl.specs.Views.{decl_view}
 use Rattle.us_top.specs.declared.status.Slot.{Slot}
 use Rattle.us_top.specs.declared.status.Status.{Status}

@@ -2,8 +2,8 @@
 use Rattle.std.specs.Prelude.{◌≡◌, ℕ, ◌⊎◌, List, [], ◌∷◌, Result, Ok, Err}
 use Rattle.us_mm.specs.declared.fault.MmFault.{MmFault}
 use Rattle.us_mm.specs.declared.fault.MmFault.TheVariants as mm
-use Rattle.us_decl.specs.declared.parsed.DeclFault.{DeclFault}
-use Rattle.us_decl.specs.declared.parsed.DeclFault.TheVariants as decl
+use Rattle.us_parse.specs.declared.parsed.DeclFault.{DeclFault}
+use Rattle.us_parse.specs.declared.parsed.DeclFault.TheVariants as decl
 use Rattle.us_container.specs.declared.fault.ContainerFault.{ContainerFault}
 use Rattle.us_container.specs.declared.fault.ContainerFault.TheVariants as container
 use Rattle.us_outside.specs.Causes.{Faults, Rose}

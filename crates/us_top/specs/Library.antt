@@ -2,13 +2,13 @@
 use Rattle.std.specs.Prelude.{ℕ, ◌-◌, List, map, length, Result, Ok, Err}
 use Rattle.us_tokens.specs.Reading.{Answer, Read, Whole, NoToken, Form, Broken, scan}
 use Rattle.us_decl.specs.declared.lexeme.Lexeme.{Lexeme}
-use Rattle.us_decl.specs.declared.parsed.DeclFault.{DeclFault}
-use Rattle.us_decl.specs.declared.parsed.DeclFault.TheVariants as fault
+use Rattle.us_parse.specs.declared.parsed.DeclFault.{DeclFault}
+use Rattle.us_parse.specs.declared.parsed.DeclFault.TheVariants as fault
 use Rattle.us_decl.specs.Grammar.{Run, Empty, Decl}
-use Rattle.us_decl.specs.Within.{Break, TooBig, Repeated}
+use Rattle.us_parse.specs.Within.{Break, TooBig, Repeated}
 use Rattle.us_decl.specs.Declares.{Declared, declared, run_items}
-use Rattle.us_decl.specs.Machine.{library_reader, Closed}
-use Rattle.us_decl.specs.Parses.{tokens_of}
+use Rattle.us_parse.specs.Machine.{library_reader, Closed}
+use Rattle.us_parse.specs.Parses.{tokens_of}
 
 -- the fault of a broken limit
 abbrev pub broken : Break → ℕ → DeclFault

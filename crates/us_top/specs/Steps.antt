@@ -11,7 +11,7 @@ use Rattle.us_format.specs.Buffers.{size}
 use Rattle.us_format.specs.Reading.{limit}
 use Rattle.us_decl.specs.Declares.{Declared}
 use Rattle.us_decl.specs.Names.{same_name}
-use Rattle.us_decl.specs.declared.parsed.DeclFault.{DeclFault}
+use Rattle.us_parse.specs.declared.parsed.DeclFault.{DeclFault}
 use Rattle.us_judge.specs.declared.refusal.Refusal.{Refusal}
 use Rattle.us_judge.specs.Acceptance.{first_refusal}
 use Rattle.us_judge.specs.Views.{declaration_of}

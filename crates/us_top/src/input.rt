@@ -14,10 +14,11 @@ use crate::{Slot, Status};
 use std::alloc::Global;
 use us_check::Held;
 use us_container::{ContainerFault, read_container};
-use us_decl::{DeclFault, Library, parse_library};
+use us_decl::Library;
 use us_matrix::Matrix;
 use us_mm::{MmFault, read_coordinate};
 use us_outside::{LoadFault, Outside, load};
+use us_parse::{DeclFault, parse_library};
 
 /// What a matrix is read from: a matrix file or a container.
 #[derive(Drop)]

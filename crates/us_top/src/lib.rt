@@ -19,10 +19,3 @@ mod status;
 
 pub use running::run;
 pub use status::{Slot, Status};
-
-#[cfg(test)]
-mod check_tests;
-#[cfg(test)]
-mod convert_tests;
-#[cfg(test)]
-mod tests;

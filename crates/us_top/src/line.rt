@@ -8,9 +8,9 @@ use crate::Slot;
 use arrayvec::ArrayString;
 use itoa::Buffer;
 use us_container::ContainerFault;
-use us_decl::DeclFault;
 use us_judge::Refusal;
 use us_mm::MmFault;
+use us_parse::DeclFault;
 
 /// The word of a slot.
 pub fn push_slot(line: &mut ArrayString<160>, slot: Slot)
@@ -129,7 +129,7 @@ pub fn push_container_fault(line: &mut ArrayString<160>, fault: ContainerFault)
 {
     match fault {
         ContainerFault::Magic => line.push_str("magic"),
-        ContainerFault::Version { version } => push_numbered(line, "version ", u64::from(version)),
+        ContainerFault::Version { n } => push_numbered(line, "version ", n),
         ContainerFault::Truncated { at } => push_numbered(line, "truncated ", at),
         ContainerFault::DeclText { at } => push_numbered(line, "text ", at),
         ContainerFault::Refused(refusal) => {

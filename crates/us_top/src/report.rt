@@ -1,5 +1,5 @@
 //! What `check` prints.
-ghost use Rattle.std.specs.Prelude.{◌≡◌, ◌<◌, ◌^◌, ◌++◌, All, IfOk, None, OnOk, length, map};
+ghost use Rattle.std.specs.Prelude.{◌≡◌, ◌<◌, ◌≤◌, ◌-◌, ◌^◌, ◌++◌, All, IfOk, None, OnOk, length, map};
 ghost use Rattle.us_format.specs.Kinds.{kind};
 ghost use Rattle.us_decl.specs.Declares.{IsValid};
 ghost use Rattle.us_decl.specs.Views.{decl_view};
@@ -67,10 +67,10 @@ fn push_accepted(out: &mut Vec<u8>, format: &Format, shape: Shape) -> Result<(),
     ensures { OnOk result (out.new.items ≡ out.old.items ++ verdict_text (shape_view shape) (declaration_of format.now) None) }
 {
     out.extend_from_slice(b" accepted")?;
-    push_part(out, format, 0, shape)?;
+    push_part(out, format, 1, shape)?;
     for part in 1..format.parts() {
         out.extend_from_slice(b" |")?;
-        push_part(out, format, part, shape)?;
+        push_part(out, format, part + 1, shape)?;
     }
     Ok(())
 }
@@ -81,10 +81,11 @@ fn push_part(
     part: usize,
     shape: Shape,
 ) -> Result<(), AllocError>
-    requires part { part < length (declaration_of format.now).parts }
+    requires from_one { 1 ≤ part }
+    requires part { part ≤ length (declaration_of format.now).parts }
     requires rows { shape.rows < 2 ^ 31 }
     requires cols { shape.cols < 2 ^ 31 }
-    ensures { OnOk result (out.new.items ≡ out.old.items ++ part_text (shape_view shape) (part_at (declaration_of format.now) part)) }
+    ensures { OnOk result (out.new.items ≡ out.old.items ++ part_text (shape_view shape) (part_at (declaration_of format.now) (part - 1))) }
 {
     for level in 0..format.levels(part) {
         let kind = format.kind(part, level);

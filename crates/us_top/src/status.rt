@@ -9,9 +9,9 @@ use crate::line::{
 use arrayvec::ArrayString;
 use std::alloc::{AllocError, AllocFailed};
 use us_container::ContainerFault;
-use us_decl::DeclFault;
 use us_judge::Refusal;
 use us_mm::MmFault;
+use us_parse::DeclFault;
 
 /// The files of a command, by their places in it, and the standard output.
 #[derive(Clone, Copy, Debug, PartialEq, Eq)]

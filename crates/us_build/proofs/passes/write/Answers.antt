@@ -16,7 +16,7 @@ push_level-requires-clause-count c =
 pub loop-k-preserved : goal.loop-k-preserved
 loop-k-preserved c =
     written-next c.args.levels.now c.args.items.now c.loop-k.k c.loop-k.positions c.loop-k.buffers (record { kind = Full; low = pos 0; size = 0 }) c.loop-k.items c.loop-k-test.true c.loop-k.invariant
-    c.go_down-below.result c.go_down-below.new.items c.go_down-below.ensures.items c.go_down-below.ensures.count c.push_level.new.buffers c.go_down-below.ensures.few c.in_ok-push_level.ensures
+    c.go_down-below.result c.go_down-below.new.items c.go_down-below.ensures.items c.go_down-below.ensures.count c.push_level.new.buffers c.go_down-below.ensures.few c.in_ok-push_level.ensures.lists
 
 pub values-requires-clause-within : goal.values-requires-clause-within
 values-requires-clause-within c =

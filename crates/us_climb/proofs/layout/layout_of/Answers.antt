@@ -5,6 +5,7 @@ use Rattle.us_format.specs.Program.{plain_shape}
 use Rattle.us_format.specs.Declaration.{Part, ValueColumn}
 use Rattle.us_judge.specs.Format.{part_at}
 use Rattle.us_judge.specs.Views.{plain_part, declaration_of}
+use Rattle.us_judge.proofs.SomePart.{some-part}
 use Rattle.us_climb.specs.declared.layout.LevelLayout.{LevelLayout}
 use Rattle.us_climb.specs.Layout.{IsInside}
 use Rattle.us_climb.proofs.Placing.{place-inside}
@@ -36,3 +37,6 @@ returns c =
       sound = c.loop-level.invariant.sound;
       inside = subst IsInside (sym c.column_place-values.ensures) (place-inside (plain_part c.args.part.now) ValueColumn);
     }
+
+pub kind-kind-requires-clause-part : goal.kind-kind-requires-clause-part
+kind-kind-requires-clause-part c = some-part c.args.format.now

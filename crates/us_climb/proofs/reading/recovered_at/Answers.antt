@@ -1,4 +1,6 @@
-use Rattle.std.proofs.Common.{◌≡◌, ℕ, List, [], sym, ap, ◌∙◌}
+use Rattle.std.proofs.Common.{◌≡◌, ℕ, List, [], get_or, sym, ap, ap₂, ◌∙◌}
+use Rattle.us_expr.specs.declared.ranges.Range.{Range}
+use Rattle.us_expr.specs.Range.{range}
 use Rattle.std.specs.Prelude.{Option, None}
 use Rattle.us_format.specs.Lists.{then_do}
 use Rattle.us_format.specs.Program.{plain_shape}
@@ -39,7 +41,13 @@ returns c =
     climbed_some c.climb_from.result c.in_ok-climb_from.field-0 c.climb_from.new.coordinates.items _ c.climb_from.ensures.climbed c.in_ok-climb_from.was in
     let s = plain_shape r.shape in
     let p = part_at (declaration_of r.format.now) 0 in
-    c.recover_with.ensures s p (record { rows_are = c.requires.ranges.rows_are; cols_are = c.requires.ranges.cols_are; ranges_are = c.requires.ranges.vars_are ∙ ap (λ (es : List ℕ). variable_ranges (plain_shape c.args.reader.now.shape) es (part_at (declaration_of c.args.reader.now.format.now) 0)) (sym c.requires.no_extents); plan_is = c.requires.plan_is })
+    c.recover_with.ensures s p (record {
+      ranges_are = λ k d l.
+          let t = (get_or r.plan.now k d).0 in
+          ap₂ (λ (m : ℕ) (n : ℕ). range m n (variable_ranges s r.tables.extents.items p) t) c.requires.ranges.rows_are c.requires.ranges.cols_are
+          ∙ ap (λ (rs : List Range). range r.ranges.shape_rows r.ranges.shape_cols rs t) (sym (c.requires.ranges.vars_are ∙ ap (λ (es : List ℕ). variable_ranges s es p) (sym c.requires.no_extents)));
+      plan_is = c.requires.plan_is;
+    })
     ∙ found-back s p r.tables.buffers.now c.climb_from.new.coordinates.items r.tables.at.items r.tables.extents.items top.coords top.values_are c.requires.no_tables c.requires.no_extents
     ∙ sym (ap (λ (o : Option (ℕ × List ℕ)). then_do o (λ up. recovered (plain_shape c.args.reader.now.shape) (part_at (declaration_of c.args.reader.now.format.now) 0) (record { coords = up.1; extents = []; tables = [] })))
     (ap (λ (ls : List LevelLayout). climb_by ls c.args.reader.now.tables.buffers.now c.args.x) (sym c.as_slice-levels.ensures.value) ∙ top.climb_is))

@@ -1,6 +1,6 @@
 use Rattle.std.proofs.lemmas.Result.{err_from_is_err_and}
 use Rattle.us_decl.specs.Views.{decl_view}
-use Rattle.us_container.proofs.Chain.{no_magic, no_version, no_text, refused, no_rows, no_cols, to_buffers}
+use Rattle.us_container.proofs.Chain.{no_magic, no_version, no_text, refused, to_buffers}
 use Rattle.us_container.proofs.reading.read_container.Goals as goal
 
 pub returns-in_err-rest : goal.returns-in_err-rest
@@ -24,20 +24,7 @@ returns-in_err-format c =
     rw (p.1, p.2) (refused c.args.bytes.now c.in_ok-rest.rest.now c.in_ok-rest.ensures c.in_ok-rest-2.rest.now c.in_ok-rest-2.ensures
     (decl_view c.in_ok-decl.decl) c.in_ok-decl.rest.now c.in_ok-decl.ensures.is c.in_err-format.field-0.0 c.in_err-format.ensures.is)
 
-pub returns-in_err-rows : goal.returns-in_err-rows
-returns-in_err-rows c =
-    let p = err_from_is_err_and c.from_residual-in_err-rows.result c.from_residual-in_err-rows.ensures.1 in
-    rw (p.1, p.2) (no_rows c.args.bytes.now c.in_ok-rest.rest.now c.in_ok-rest.ensures c.in_ok-rest-2.rest.now c.in_ok-rest-2.ensures
-    (decl_view c.in_ok-decl.decl) c.in_ok-decl.rest.now c.in_ok-decl.ensures.is c.in_ok-format.ensures.is c.in_err-rows.field-0.0 c.in_err-rows.ensures.is)
-
-pub returns-in_err-cols : goal.returns-in_err-cols
-returns-in_err-cols c =
-    let p = err_from_is_err_and c.from_residual-in_err-cols.result c.from_residual-in_err-cols.ensures.1 in
-    rw (p.1, p.2) (no_cols c.args.bytes.now c.in_ok-rest.rest.now c.in_ok-rest.ensures c.in_ok-rest-2.rest.now c.in_ok-rest-2.ensures
-    (decl_view c.in_ok-decl.decl) c.in_ok-decl.rest.now c.in_ok-decl.ensures.is c.in_ok-format.ensures.is c.in_ok-rows.rows c.in_ok-rows.rest.now c.in_ok-rows.ensures.is c.in_err-cols.field-0.0 c.in_err-cols.ensures.is)
-
 pub returns : goal.returns
 returns c =
     to_buffers c.args.bytes.now c.in_ok-rest.rest.now c.in_ok-rest.ensures c.in_ok-rest-2.rest.now c.in_ok-rest-2.ensures
-    (decl_view c.in_ok-decl.decl) c.in_ok-decl.rest.now c.in_ok-decl.ensures.is c.in_ok-format.ensures.is c.in_ok-rows.rows c.in_ok-rows.rest.now c.in_ok-rows.ensures.is
-    c.in_ok-format.format c.in_ok-cols.cols c.in_ok-cols.rest.now c.buffers_in.result c.in_ok-format.ensures.same c.in_ok-cols.ensures.is c.buffers_in.ensures
+    (decl_view c.in_ok-decl.decl) c.in_ok-decl.rest.now c.in_ok-decl.ensures.is c.in_ok-format.ensures.is c.in_ok-format.format c.behind_text.result c.in_ok-format.ensures.same c.behind_text.ensures

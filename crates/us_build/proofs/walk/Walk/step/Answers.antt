@@ -1,4 +1,4 @@
-use Rattle.std.proofs.Common.{◌≡◌, ◌+◌, ◌-◌, ◌<◌, ◌≤◌, ◌++◌, ℕ, ℤ, [], List, map, length, take, drop, ap, sym, subst, ◌∙◌, arith}
+use Rattle.std.proofs.Common.{◌≡◌, ◌+◌, ◌-◌, ◌<◌, ◌++◌, ℤ, List, map, length, take, drop, ap, sym, subst, ◌∙◌, arith}
 use Rattle.std.specs.Result.{OnOk}
 use Rattle.us_format.specs.Buffers.{buffers_at}
 use Rattle.us_format.specs.Packs.{written}
@@ -62,7 +62,7 @@ returns-clause-lists c =
     ap (λ (ys : List Item). map written (buffers_at c.index.result.now.kind c.index.result.now.size c.self.inside.positions (rows_above (6 - c.len.result + c.self.inside.done) ys))) (c.deref.ensures.value ∙ whole)
     ∙ step-lists c.self.inside.levels.items c.self.inside.done c.self.inside.positions (6 - c.len.result + c.self.inside.done) c.go_down-below.result c.index.result.now c.deref_mut.result.now c.go_down-below.new.items h o iq c.index.ensures c.go_down-below.ensures.items c.go_down-below.ensures.count
     ∙ ap (λ (w : Way). map written (first_buffers w.levels w.positions w.rows)) now in
-    subst (λ (l : List (List ℤ)). OnOk c.push_level.result (c.push_level.new.buffers ≡ c.args.lists.now ++ l)) lists c.push_level.ensures
+    subst (λ (l : List (List ℤ)). OnOk c.push_level.result (c.push_level.new.buffers ≡ c.args.lists.now ++ l)) lists c.push_level.ensures.lists
 
 pub returns-clause-below : goal.returns-clause-below
 returns-clause-below c =

@@ -1,4 +1,4 @@
-use Rattle.std.proofs.Common.{◌≡◌, ℕ, [], List, ap, sym, subst, ◌∙◌}
+use Rattle.std.proofs.Common.{◌≡◌, ℕ, List, ap, sym, subst, ◌∙◌}
 use Rattle.std.specs.Result.{IfOk}
 use Rattle.us_format.specs.Buffers.{val_buffer}
 use Rattle.us_format.specs.Packs.{written}

@@ -1,14 +1,8 @@
-use Rattle.std.proofs.Common.{◌≡◌, map, subst, ◌∙◌}
-use Rattle.us_decl.specs.Declares.{Declared}
+use Rattle.std.proofs.Common.{◌-◌}
 use Rattle.us_judge.specs.Format.{part_at}
-use Rattle.us_judge.specs.Kinds.{kinds_of}
 use Rattle.us_judge.specs.Views.{declaration_of}
-use Rattle.us_judge.proofs.PartKinds.{kept_kinds, length-kinds}
+use Rattle.us_judge.proofs.PartKinds.{length-kinds}
 use Rattle.us_judge.proofs.format.Format.levels.Goals as goal
 
 pub returns : goal.returns
-returns c =
-    let kept : c.self.inside.kinds ≡ map kinds_of (declaration_of c.args.self.now).parts = subst (λ (v : Declared). c.self.inside.kinds ≡ map kinds_of (declaration_of v).parts) c.self.view_is c.self.invariant.kinds_are in
-    c.len.ensures
-    ∙ length-kinds (part_at (declaration_of c.args.self.now) c.args.part) c.index-as_slice-part.result
-    (kept_kinds (declaration_of c.args.self.now) c.as_slice.result.now c.args.part c.index-as_slice-part.result (c.as_slice.ensures ∙ kept) c.requires c.index-as_slice-part.is)
+returns c = length-kinds (part_at (declaration_of c.args.self.now) (c.args.part - 1)) c.kinds.result.now c.kinds.ensures

@@ -1,7 +1,0 @@
-use Rattle.us_tokens.proofs.Reading.{scan_means}
-use Rattle.us_decl.specs.Machine.{reader}
-use Rattle.us_decl.proofs.Held.{held}
-use Rattle.us_decl.proofs.laws.answers_mean.Goals as goal
-
-pub returns : goal.returns
-returns c = λ earlier. scan_means (reader earlier) (held earlier)

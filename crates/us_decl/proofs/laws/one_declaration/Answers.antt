@@ -1,8 +1,0 @@
-use Rattle.std.proofs.Common.{[]}
-use Rattle.us_tokens.proofs.Reading.{one_reading}
-use Rattle.us_decl.specs.Machine.{reader}
-use Rattle.us_decl.proofs.Held.{held}
-use Rattle.us_decl.proofs.laws.one_declaration.Goals as goal
-
-pub returns : goal.returns
-returns c = one_reading (reader []) (held [])

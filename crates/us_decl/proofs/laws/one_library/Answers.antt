@@ -1,7 +1,0 @@
-use Rattle.us_tokens.proofs.Reading.{one_reading}
-use Rattle.us_decl.specs.Machine.{library_reader}
-use Rattle.us_decl.proofs.Shelves.{held}
-use Rattle.us_decl.proofs.laws.one_library.Goals as goal
-
-pub returns : goal.returns
-returns c = one_reading library_reader held

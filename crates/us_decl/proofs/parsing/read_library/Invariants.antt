@@ -1,9 +1,0 @@
-use Rattle.us_decl.specs.Reads.{text_of, size}
-use Rattle.us_decl.specs.Parses.{GoesLibrary, tokens_of}
-use Rattle.us_decl.proofs.parsing.read_library.Given as goal
-
-abbrev pub invariant-more : goal.invariant-more
-invariant-more l = GoesLibrary (tokens_of l.fn.bytes) (text_of l.reader.cursor) l.library
-
-abbrev pub decreases-more : goal.decreases-more
-decreases-more l = size (text_of l.reader.cursor)

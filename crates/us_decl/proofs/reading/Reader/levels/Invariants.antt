@@ -1,9 +1,0 @@
-use Rattle.us_decl.specs.Reads.{text_of, size}
-use Rattle.us_decl.specs.ReadsParts.{GoesLevels}
-use Rattle.us_decl.proofs.reading.Reader.levels.Given as goal
-
-abbrev pub invariant-more : goal.invariant-more
-invariant-more l = GoesLevels (text_of l.fn.self.cursor) (text_of l.self.cursor) l.fn.self.names l.self.names l.levels
-
-abbrev pub decreases-more : goal.decreases-more
-decreases-more l = size (text_of l.self.cursor)

@@ -1,0 +1,10 @@
+pub mod Piece
+pub mod Within
+pub mod Machine
+pub mod Laws
+pub mod Reads
+pub mod ReadsQueries
+pub mod ReadsParts
+pub mod ReadsBodies
+pub mod ReadsDecls
+pub mod Parses

@@ -1,0 +1,19 @@
+//! What no clause says, over the public calls of all crates: worked texts and files, and the answers that were worked out by hand.
+#![tactic(auto)]
+
+#[cfg(test)]
+mod commands;
+#[cfg(test)]
+mod containers;
+#[cfg(test)]
+mod declarations;
+#[cfg(test)]
+mod expressions;
+#[cfg(test)]
+mod matrix_files;
+#[cfg(test)]
+mod outside;
+#[cfg(test)]
+mod runs;
+#[cfg(test)]
+mod samples;

@@ -1,0 +1,53 @@
+//! Runs of the program over files in memory.
+
+use std::alloc::{AllocError, Global};
+use us_outside::MemoryOutside;
+use us_top::{Status, run};
+
+/// Files in memory: a library as LIB and an input as A.
+pub fn files(alloc: Global, library: &[u8], input: &[u8]) -> Result<MemoryOutside, AllocError> {
+    let mut outside = MemoryOutside::new(alloc);
+    outside.put("LIB", library)?;
+    outside.put("A", input)?;
+    Ok(outside)
+}
+
+/// The words of a command line.
+fn words(alloc: Global, texts: &[&str]) -> Result<Vec<String>, AllocError> {
+    let mut words = Vec::new(alloc);
+    for text in texts {
+        words.push(String::from_str(alloc, text)?)?;
+    }
+    Ok(words)
+}
+
+/// The answer to a command line.
+pub fn answer(alloc: Global, outside: &mut MemoryOutside, texts: &[&str]) -> Status {
+    match words(alloc, texts) {
+        Ok(words) => run(alloc, &words, outside),
+        Err(_) => Status::Memory,
+    }
+}
+
+/// Whether a command line has this line as its answer.
+pub fn is_answered(alloc: Global, outside: &mut MemoryOutside, texts: &[&str], line: &str) -> bool {
+    answer(alloc, outside, texts).line().as_str() == line
+}
+
+/// Whether this was printed.
+pub fn has_printed(outside: &MemoryOutside, text: &[u8]) -> bool {
+    outside.printed() == text
+}
+
+/// Whether a file has these bytes.
+pub fn is_file(outside: &MemoryOutside, name: &str, bytes: &[u8]) -> bool {
+    match outside.file(name) {
+        Some(found) => found == bytes,
+        None => false,
+    }
+}
+
+/// Whether there is such a file.
+pub fn has_file(outside: &MemoryOutside, name: &str) -> bool {
+    outside.file(name).is_some()
+}
