@@ -1,19 +1,15 @@
 -- The size line and a value line of an operand file by their words, and by their numbers where these stop at the largest u64.
-use Rattle.std.proofs.Common.{◌≡◌, ◌≢◌, ℕ, ◌+◌, ◌-◌, ◌<◌, ◌^◌, ◌==◌, ◌&&◌, min, Bool, true, false, cond, List, [], ◌∷◌, length, flat_map, Ok, Err, Result, ℤ, pos, negsuc, nat_lt, FitsSigned, refl, sym, ap, ◌∙◌, inl, inr, arith}
+use Rattle.std.proofs.Common.{◌≡◌, ◌≢◌, ℕ, ◌-◌, ◌<◌, ◌^◌, ◌&&◌, min, Bool, true, false, cond, List, [], ◌∷◌, length, Err, ℤ, pos, negsuc, nat_lt, FitsSigned, refl, sym, ap, ◌∙◌, inl, inr, arith}
 use Rattle.std.proofs.lemmas.Bool.{cases_Bool}
 use Rattle.std.proofs.lemmas.Bool.Decides.{nat_tests}
 use Rattle.std.specs.Str.Parse.{digits_value, starts_with_minus, without_leading_sign}
 use Rattle.std.specs.Int.{w64}
-use Rattle.us_mm.specs.declared.fault.MmFault.{MmFault}
 use Rattle.us_mm.specs.declared.fault.MmFault.TheVariants.{Header, SizeLine, EntryLine, ValueRange}
 use Rattle.us_mm.specs.declared.fault.MmFault.TheVariants as fault
-use Rattle.us_mm.specs.Lines.{lines, kept}
-use Rattle.us_mm.specs.Words.{words, is_size_word, size_of, is_value_word, value_of, signed_value, is_value}
-use Rattle.us_mm.specs.Reads.{◌>>=◌, is_side, wanted}
-use Rattle.us_mm.specs.Arrays.{array_words, array_header_of, sides_of, side_words, side_numbers, value_in, value_words, value_number, array_in, array_lines, array_sized}
-use Rattle.us_mm.proofs.LineLemmas.{no_bytes}
+use Rattle.us_mm_lines.specs.Words.{words, is_size_word, size_of, is_value_word, value_of, signed_value, is_value}
+use Rattle.us_mm.specs.Reads.{is_side}
+use Rattle.us_mm.specs.Arrays.{array_words, array_header_of, sides_of, side_words, side_numbers, value_in, value_words, value_number}
 use Rattle.us_mm.proofs.EntryLemmas.{saturated_value}
-use Rattle.us_mm.proofs.ReadLemmas.{resume, resume_start}
 
 array_words-not_five : (ws : List (List ℕ)) → length ws ≢ 5 → array_words ws ≡ Err Header
 array_words-not_five [] h = refl
@@ -100,36 +96,6 @@ value_known n line w minus z h e s g =
     ap (value_words n) h ∙ ap (λ b. cond b (value_number n (value_of w)) (Err (EntryLine n))) e
     ∙ ap (λ t. value_number n (signed_value t (digits_value 10 (without_leading_sign w)))) (sym s)
     ∙ same_value n _ _ (saturated_value minus _ z g)
-
--- ---- the whole file
-
-pub array_none : (bs : List ℕ) → (length bs == 0) ≡ true → array_in bs ≡ Err Header
-unfolding array_in
-array_none bs h = ap array_lines (no_bytes bs h)
-
-pub array_bad_header : (bs line rest : List ℕ) (f : MmFault) → lines bs ≡ line ∷ lines rest → array_header_of line ≡ Err f → array_in bs ≡ Err f
-unfolding array_in
-array_bad_header bs line rest f h e = ap array_lines h ∙ ap (λ r. r >>= λ _. array_sized (length (lines rest) + 1) (kept 2 (lines rest))) e
-
-pub array_good_header : (bs line rest : List ℕ) (u : Unit {0}) → lines bs ≡ line ∷ lines rest → array_header_of line ≡ Ok u
-    → array_in bs ≡ array_sized (length (lines rest) + 1) (kept 2 (lines rest))
-unfolding array_in
-array_good_header bs line rest u h e = ap array_lines h ∙ ap (λ r. r >>= λ _. array_sized (length (lines rest) + 1) (kept 2 (lines rest))) e
-
--- a value line gives one cell
-abbrev pub one : ℤ → List ℤ
-one v = v ∷ []
-
-own_cells : (vs : List ℤ) → flat_map one vs ≡ vs
-own_cells [] = refl
-own_cells (v ∷ vs) = ap (λ l. v ∷ l) (own_cells vs)
-
-own_answer : (r : Result (List ℤ) MmFault) → (r >>= λ vs. Ok (flat_map one vs)) ≡ r
-own_answer (Err e) = refl
-own_answer (Ok vs) = ap Ok (own_cells vs)
-
-pub values_start : (count : ℕ) (ls : List (ℕ × List ℕ)) → resume value_in one count 0 count [] ls ≡ wanted value_in count ls
-values_start count ls = resume_start value_in one count ls ∙ own_answer (wanted value_in count ls)
 
 test_below : (n m : ℕ) → nat_lt n m ≡ true → n < m
 test_below n m h = grind (arith, nat_tests)

@@ -4,7 +4,7 @@ use Rattle.std.proofs.lemmas.Bool.{cases_Bool}
 use Rattle.std.proofs.lemmas.Bool.Decides.{nat_tests}
 use Rattle.std.specs.Str.Parse.{digits_value, starts_with_minus, without_leading_sign}
 use Rattle.us_mm.specs.declared.fault.MmFault.TheVariants.{SizeLine, EntryLine}
-use Rattle.us_mm.specs.Words.{words, is_size_word, size_of, is_value_word, value_of, signed_value, is_value}
+use Rattle.us_mm_lines.specs.Words.{words, is_size_word, size_of, is_value_word, value_of, signed_value, is_value}
 use Rattle.us_mm.specs.declared.form.Field.{Field}
 use Rattle.us_mm.specs.declared.form.Field.TheVariants.{Integer, Pattern}
 use Rattle.us_mm.specs.declared.form.Symmetry.{Symmetry}

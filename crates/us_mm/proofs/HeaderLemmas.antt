@@ -1,7 +1,7 @@
 -- The header by its words.
 use Rattle.std.proofs.Common.{◌≡◌, ◌≢◌, ℕ, List, [], ◌∷◌, length, Err, refl, ap}
 use Rattle.us_mm.specs.declared.fault.MmFault.TheVariants.{Header}
-use Rattle.us_mm.specs.Words.{words}
+use Rattle.us_mm_lines.specs.Words.{words}
 use Rattle.us_mm.specs.Reads.{header_of, header_words}
 
 header_words-not_five : (ws : List (List ℕ)) → length ws ≢ 5 → header_words ws ≡ Err Header

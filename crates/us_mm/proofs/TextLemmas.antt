@@ -1,18 +1,16 @@
 -- A canonical text is read again.
-use Rattle.std.proofs.Common.{◌≡◌, ℕ, suc, ◌+◌, ◌-◌, ◌^◌, ◌<◌, ◌≤◌, ◌==◌, ◌&&◌, ◌||◌, not, nat_lt, nat_le, Bool, true, false, cond, List, [], ◌∷◌, ◌++◌, length, take, drop, map, flat_map, Ok, Err, Result, ℤ, pos, negsuc, FitsSigned, refl, ap, ◌∙◌, arith, append_assoc, length-append}
+use Rattle.std.proofs.Common.{◌≡◌, ℕ, suc, ◌+◌, ◌-◌, ◌^◌, ◌<◌, ◌≤◌, ◌==◌, ◌&&◌, not, nat_lt, nat_le, Bool, true, false, cond, List, [], ◌∷◌, ◌++◌, length, drop, map, flat_map, Ok, Err, Result, ℤ, pos, negsuc, FitsSigned, refl, ap, ◌∙◌, arith, append_assoc}
 use Rattle.std.specs.Prelude.{codes}
 use Rattle.std.specs.Fmt.{decimal, signed_decimal}
-use Rattle.std.specs.Str.Lines.{strip_carriage_return}
-use Rattle.std.specs.List.{list_all, enumerate_from}
+use Rattle.std.specs.List.{enumerate_from}
 use Rattle.std.proofs.lemmas.Bool.Decides.{nat_tests}
-use Rattle.std.proofs.lemmas.List.{take_all, take_at, drop_at, drop_all, get_or_append_left, get_or_at}
-use Rattle.std.proofs.Math.Seq.{drop-append-add}
+use Rattle.std.proofs.lemmas.List.{take_all, drop_all}
 use Rattle.std.specs.Int.{w64}
 use Rattle.us_matrix.specs.declared.matrix.Triple.{Triple}
 use Rattle.us_matrix.specs.Map.{Map, IsSide, IsMatrix, IsEntry, AreEntries, matrix_of}
 use Rattle.us_matrix.proofs.EntriesOf.{matrix_of-entries}
-use Rattle.us_mm.specs.Lines.{lines, kept, is_blank, is_skipped}
-use Rattle.us_mm.specs.Words.{words, size_of, value_of, is_value}
+use Rattle.us_mm_lines.specs.Lines.{lines, kept}
+use Rattle.us_mm_lines.specs.Words.{words, size_of, value_of, is_value}
 use Rattle.us_mm.specs.Reads.{◌>>=◌, each, entry_of, integer_words, entry_numbers, sizes_of, size_words, size_numbers, Sizes, matrix_in, reading_of, read_lines, read_sized, read_entries, wanted, no_more, header_of}
 use Rattle.us_mm.specs.declared.fault.MmFault.TheVariants.{SizeLine, EntryLine, Missing, OutOfShape, ValueRange}
 use Rattle.us_mm.specs.declared.fault.MmFault.{MmFault}
@@ -21,92 +19,12 @@ use Rattle.us_mm.specs.declared.form.Symmetry.TheVariants.{General}
 use Rattle.us_mm.specs.declared.form.Form.{Form}
 use Rattle.us_mm.specs.Forms.{stands_for}
 use Rattle.us_mm.specs.Text.{text, line_of, entry_line}
-use Rattle.us_mm.proofs.LineLemmas.{lines_first, lines-nil, kept_line, kept-nil}
-use Rattle.us_mm.proofs.WordLemmas.{words_first, words_blank, words-nil}
-use Rattle.us_mm.proofs.DecimalLemmas.{Clear, clear_append, clear_at, clear_by_test, decimal_clear, decimal_some, signed_clear, signed_some, size_word_decimal, value_word_decimal}
-
--- a word, a space and what follows
-word_then : (w rest : List ℕ) → 0 < length w → Clear is_blank w → words (w ++ 32 ∷ rest) ≡ w ∷ words rest
-word_then w rest some clear =
-    words_first (w ++ 32 ∷ rest) (length w) some (omega (arith, length-append w (32 ∷ rest)))
-    (λ k lt. ap is_blank (get_or_append_left w (32 ∷ rest) 0 k lt) ∙ clear_at is_blank w k clear lt) (λ lt. ap is_blank (get_or_at w 32 rest 0 (length w) refl))
-    ∙ ap (λ l. l ∷ words (drop (length w) (w ++ 32 ∷ rest))) (take_at w (32 ∷ rest) (length w) refl)
-    ∙ ap (λ l. w ∷ words l) (drop_at w (32 ∷ rest) (length w) refl)
-    ∙ ap (λ ws. w ∷ ws) (words_blank 32 rest refl)
-
-word_last : (w : List ℕ) → 0 < length w → Clear is_blank w → words w ≡ w ∷ []
-word_last w some clear =
-    words_first w (length w) some (omega arith) (λ k lt. clear_at is_blank w k clear lt) (λ lt. absurd (omega arith))
-    ∙ ap (λ l. l ∷ words (drop (length w) w)) (take_all (length w) w (omega arith))
-    ∙ ap (λ l. w ∷ words l) (drop_all (length w) w (omega arith)) ∙ ap (λ ws. w ∷ ws) words-nil
-
--- a line of three words, without its line feed
-abbrev pub bare : List ℕ → List ℕ → List ℕ → List ℕ
-bare a b c = a ++ 32 ∷ (b ++ 32 ∷ c)
-
--- a word that stands in a line
-pub record IsWord (w : List ℕ) : Type 0 where
-  pub some : 0 < length w
-  pub blanks : Clear is_blank w
-  pub feeds : Clear (λ b. b == 10) w
-  pub returns : Clear (λ b. b == 13) w
-  pub percents : Clear (λ b. b == 37) w
-
-pub words_bare : (a b c : List ℕ) → IsWord a → IsWord b → IsWord c → words (bare a b c) ≡ a ∷ b ∷ c ∷ []
-words_bare a b c ia ib ic =
-    word_then a (b ++ 32 ∷ c) ia.some ia.blanks ∙ ap (λ ws. a ∷ ws) (word_then b c ib.some ib.blanks ∙ ap (λ ws. b ∷ ws) (word_last c ic.some ic.blanks))
-
-clear_bare : (p : ℕ → Bool) (a b c : List ℕ) → p 32 ≡ false → Clear p a → Clear p b → Clear p c → Clear p (bare a b c)
-clear_bare p a b c space ha hb hc = clear_append p a (32 ∷ (b ++ 32 ∷ c)) ha (space, clear_append p b (32 ∷ c) hb (space, hc))
+use Rattle.us_mm_lines.proofs.LineLemmas.{lines-nil, kept_line, kept-nil}
+use Rattle.us_mm_lines.proofs.DecimalLemmas.{clear_by_test, size_word_decimal, value_word_decimal}
+use Rattle.us_mm_lines.proofs.WrittenLemmas.{bare, words_bare, clear_bare, lines_clear, not_skipped, decimal_word, signed_word}
 
 line_of-bare : (a b c rest : List ℕ) → line_of a b c ++ rest ≡ bare a b c ++ 10 ∷ rest
 line_of-bare a b c rest = simp append_assoc
-
-no_return : (l : List ℕ) → Clear (λ b. b == 13) l → strip_carriage_return l ≡ l
-no_return [] h = refl
-no_return (x ∷ l) h = ap (λ b. cond b (take (length (x ∷ l) - 1) (x ∷ l)) (x ∷ l)) (clear_at (λ b. b == 13) (x ∷ l) (length (x ∷ l) - 1) h (omega arith))
-
-lines_clear : (l rest : List ℕ) → Clear (λ b. b == 10) l → Clear (λ b. b == 13) l → lines (l ++ 10 ∷ rest) ≡ l ∷ lines rest
-lines_clear l rest feeds returns =
-    lines_first (l ++ 10 ∷ rest) (length l) (omega (arith, length-append l (10 ∷ rest)))
-    (λ k lt. ap (λ b. b == 10) (get_or_append_left l (10 ∷ rest) 0 k lt) ∙ clear_at (λ b. b == 10) l k feeds lt) (ap (λ b. b == 10) (get_or_at l 10 rest 0 (length l) refl))
-    ∙ ap (λ x. strip_carriage_return x ∷ lines (drop (length l + 1) (l ++ 10 ∷ rest))) (take_at l (10 ∷ rest) (length l) refl)
-    ∙ ap (λ x. x ∷ lines (drop (length l + 1) (l ++ 10 ∷ rest))) (no_return l returns)
-    ∙ ap (λ x. l ∷ lines x) (drop-append-add l (10 ∷ rest) 1)
-
-not_skipped : (a rest : List ℕ) → IsWord a → is_skipped (a ++ rest) ≡ false
-not_skipped [] rest w = absurd (omega (arith, w.some))
-not_skipped (x ∷ a) rest w = ap (λ b. b || (is_blank x && list_all is_blank (a ++ rest))) w.percents.0 ∙ ap (λ b. b && list_all is_blank (a ++ rest)) w.blanks.0
-
-digit_blank : (c : ℕ) → 48 ≤ c → c ≤ 57 → is_blank c ≡ false
-digit_blank c lo hi = grind (arith, nat_tests)
-
-digit_feed : (c : ℕ) → 48 ≤ c → c ≤ 57 → (c == 10) ≡ false
-digit_feed c lo hi = grind (arith, nat_tests)
-
-digit_return : (c : ℕ) → 48 ≤ c → c ≤ 57 → (c == 13) ≡ false
-digit_return c lo hi = grind (arith, nat_tests)
-
-digit_percent : (c : ℕ) → 48 ≤ c → c ≤ 57 → (c == 37) ≡ false
-digit_percent c lo hi = grind (arith, nat_tests)
-
-decimal_word : (n : ℕ) → n < 2 ^ 64 → IsWord (decimal n)
-decimal_word n h = record {
-  some = decimal_some n h;
-  blanks = decimal_clear is_blank digit_blank n h;
-  feeds = decimal_clear (λ b. b == 10) digit_feed n h;
-  returns = decimal_clear (λ b. b == 13) digit_return n h;
-  percents = decimal_clear (λ b. b == 37) digit_percent n h;
-}
-
-signed_word : (v : ℤ) → FitsSigned w64 v → IsWord (signed_decimal v)
-signed_word v f = record {
-  some = signed_some v f;
-  blanks = signed_clear is_blank digit_blank refl v f;
-  feeds = signed_clear (λ b. b == 10) digit_feed refl v f;
-  returns = signed_clear (λ b. b == 13) digit_return refl v f;
-  percents = signed_clear (λ b. b == 37) digit_percent refl v f;
-}
 
 -- the header of a canonical text, and the numbers of its size line
 abbrev plain : Form
@@ -140,7 +58,7 @@ numbers_read n rows cols t row col fits =
 test_true : (a b : ℕ) → a < b → nat_lt a b ≡ true
 test_true a b h = grind (arith, nat_tests)
 
-value_fits : (v : ℤ) → FitsSigned w64 v → is_value v ≡ true
+pub value_fits : (v : ℤ) → FitsSigned w64 v → is_value v ≡ true
 value_fits (pos n) f = let lt : n < 2 ^ 63 = omega (arith, f.sfits) in test_true n (2 ^ 63) lt
 value_fits (negsuc n) f = let lt : n < 2 ^ 63 = omega (arith, f.sfits) in test_true n (2 ^ 63) lt
 
@@ -217,7 +135,7 @@ length-numbered n (t ∷ ts) = ap suc (length-numbered (n + 1) ts)
 not_short : (a b : ℕ) → a ≡ b → nat_lt a b ≡ false
 not_short a b h = grind (arith, nat_tests)
 
-wanted_read : {A : Type 0} (f : ℕ × List ℕ → Result A MmFault) (count : ℕ) (ls : List (ℕ × List ℕ)) (xs : List A) → length ls ≡ count → each f ls ≡ Ok xs → wanted f count ls ≡ Ok xs
+pub wanted_read : {A : Type 0} (f : ℕ × List ℕ → Result A MmFault) (count : ℕ) (ls : List (ℕ × List ℕ)) (xs : List A) → length ls ≡ count → each f ls ≡ Ok xs → wanted f count ls ≡ Ok xs
 unfolding wanted
 wanted_read {A} f count ls xs len h =
     let rest : List A → Result (List A) MmFault = λ ys. cond (nat_lt (length ls) count) (Err (Missing (length ls) count)) (no_more (drop count ls) ys) in

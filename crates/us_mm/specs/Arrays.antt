@@ -6,8 +6,8 @@ use Rattle.us_matrix.specs.Grid.{Grid}
 use Rattle.us_mm.specs.declared.fault.MmFault.{MmFault}
 use Rattle.us_mm.specs.declared.fault.MmFault.TheVariants.{Header, Unsupported, SizeLine, TooManyEntries, EntryLine, ValueRange}
 use Rattle.us_mm.specs.declared.fault.MmFault.TheVariants as fault
-use Rattle.us_mm.specs.Lines.{lines, kept}
-use Rattle.us_mm.specs.Words.{words, is_size_word, size_of, is_value_word, value_of, is_value}
+use Rattle.us_mm_lines.specs.Lines.{lines, kept}
+use Rattle.us_mm_lines.specs.Words.{words, is_size_word, size_of, is_value_word, value_of, is_value}
 use Rattle.us_mm.specs.Reads.{◌>>=◌, is_side, wanted}
 
 -- the first line: five words, in any case

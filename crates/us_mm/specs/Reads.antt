@@ -11,8 +11,8 @@ use Rattle.us_mm.specs.declared.form.Symmetry.{Symmetry}
 use Rattle.us_mm.specs.declared.form.Symmetry.TheVariants.{General, Symmetric, SkewSymmetric}
 use Rattle.us_mm.specs.declared.form.Form.{Form}
 use Rattle.us_mm.specs.Forms.{allows, stores, stands_for}
-use Rattle.us_mm.specs.Lines.{lines, kept}
-use Rattle.us_mm.specs.Words.{words, is_size_word, size_of, is_value_word, value_of, is_value}
+use Rattle.us_mm_lines.specs.Lines.{lines, kept}
+use Rattle.us_mm_lines.specs.Words.{words, is_size_word, size_of, is_value_word, value_of, is_value}
 
 infixl 10 ◌>>=◌
 abbrev pub ◌>>=◌ : {A B : Type 0} → Result A MmFault → (A → Result B MmFault) → Result B MmFault

@@ -1,12 +1,11 @@
 -- What the reader's values stand for.
-use Rattle.std.specs.Prelude.{◌≡◌, List, ℤ, Result, Ok, Err}
+use Rattle.std.specs.Prelude.{◌≡◌, Result, Ok, Err}
 use Rattle.us_mm.specs.declared.fault.MmFault.{MmFault}
 use Rattle.us_mm.specs.declared.fault.MmFault.TheVariants.{Memory}
 use Rattle.std.specs.declared.vec.Vec.{Vec}
 use Rattle.std.specs.declared.alloc.Global.{Global}
 use Rattle.us_matrix.specs.declared.matrix.Triple.{Triple}
 use Rattle.us_matrix.specs.declared.shape.Shape.{Shape}
-use Rattle.us_matrix.specs.Grid.{Grid}
 use Rattle.us_mm.specs.declared.entries.Size.{Size}
 use Rattle.us_mm.specs.Reads.{Sizes, Reading}
 
@@ -27,16 +26,7 @@ abbrev pub Gives : {A : Type 0} → Result A MmFault → Result A MmFault → Ty
 Gives (Ok x) read = read ≡ Ok x
 Gives (Err fault) read = IsFaultOf fault read
 
--- The same of what a vector holds.
-abbrev pub GivesItems : {A : Type 0} → Result (Vec A Global) MmFault → Result (List A) MmFault → Type 0
-GivesItems (Ok v) read = read ≡ Ok v.items
-GivesItems (Err fault) read = IsFaultOf fault read
-
--- The same of a shape with its triples, and with its cells.
+-- The same of a shape with its triples.
 abbrev pub GivesReading : Result (Shape × Vec Triple Global) MmFault → Result Reading MmFault → Type 0
 GivesReading (Ok r) read = read ≡ Ok (record { rows = r.0.rows; cols = r.0.cols; triples = r.1.items })
 GivesReading (Err fault) read = IsFaultOf fault read
-
-abbrev pub GivesCells : Result (Shape × Vec ℤ Global) MmFault → Result Grid MmFault → Type 0
-GivesCells (Ok r) read = read ≡ Ok (record { rows = r.0.rows; cols = r.0.cols; cells = r.1.items })
-GivesCells (Err fault) read = IsFaultOf fault read

@@ -1,12 +1,13 @@
 // The size line and the value lines of an operand file.
 ghost use Rattle.std.specs.Prelude.{◌≡◌, true, ◌≢◌, ◌*◌, ◌≤◌, ◌∷◌, [], length, IfOk, MatchOption};
 ghost use Rattle.us_matrix.specs.Map.{IsSide};
+ghost use Rattle.us_mm.specs.Options.{side_options, value_option};
 ghost use Rattle.us_mm.specs.Arrays.{sides_of, side_words, side_numbers, value_in, value_number};
-ghost use Rattle.us_mm.specs.Words.{words, signed_value, is_value};
+ghost use Rattle.us_mm_lines.specs.Words.{words, signed_value, is_value};
 
 use crate::MmFault;
-use crate::words::{next_word, signed, size_word, two_words, value_word};
 use us_matrix::Shape;
+use us_mm_lines::{next_word, signed, size_word, two_words, value_word};
 
 /// The numbers of the size line, which has that number.
 #[tactic(auto, using(crate::proofs::ArrayLemmas::sides_not_two, crate::proofs::ArrayLemmas::sides_two))]
@@ -21,14 +22,21 @@ pub fn sides_line(number: u64, line: &[u8]) -> Result<Shape, MmFault>
     }
 }
 
-#[tactic(auto, using(crate::proofs::ArrayLemmas::sides_known, crate::proofs::ArrayLemmas::sides_unknown))]
+#[tactic(auto, using(crate::proofs::OptionLemmas::sides_by_options))]
 fn side_words(number: u64, rows: &[u8], cols: &[u8]) -> Result<Shape, MmFault>
     ensures value { result ≡ side_words number (rows.now ∷ cols.now ∷ []) }
     ensures sides { IfOk result (λ s. IsSide s.rows × IsSide s.cols) }
     ensures size { IfOk result (λ s. s.rows * s.cols ≤ 33554432) }
 {
-    let rows = size_word(rows);
-    let cols = size_word(cols);
+    side_options(number, size_word(rows), size_word(cols))
+}
+
+/// The numbers of the size line, of which none is that of a word that is no number.
+pub fn side_options(number: u64, rows: Option<u64>, cols: Option<u64>) -> Result<Shape, MmFault>
+    ensures value { result ≡ side_options number rows cols }
+    ensures sides { IfOk result (λ s. IsSide s.rows × IsSide s.cols) }
+    ensures size { IfOk result (λ s. s.rows * s.cols ≤ 33554432) }
+{
     match (rows, cols) {
         (Some(rows), Some(cols)) => side_numbers(number, rows, cols),
         _ => Err(MmFault::SizeLine { line: number }),
@@ -66,7 +74,7 @@ fn one_word(line: &[u8]) -> Option<&[u8]>
 }
 
 /// The value of a value line, which has that number.
-#[tactic(auto, using(crate::proofs::ArrayLemmas::value_not_one, crate::proofs::ArrayLemmas::value_known, crate::proofs::ArrayLemmas::value_unknown))]
+#[tactic(auto, using(crate::proofs::ArrayLemmas::value_not_one))]
 pub fn value_line(number: u64, line: &[u8]) -> Result<i64, MmFault>
     ensures value { result ≡ value_in (number, line.now) }
     ensures range { IfOk result (λ v. is_value v ≡ true) }
@@ -74,7 +82,15 @@ pub fn value_line(number: u64, line: &[u8]) -> Result<i64, MmFault>
     let Some(word) = one_word(line) else {
         return Err(MmFault::EntryLine { line: number });
     };
-    match value_word(word) {
+    value_option(number, value_word(word))
+}
+
+/// The value of a value line, none where its word is no number.
+pub fn value_option(number: u64, value: Option<(bool, u64)>) -> Result<i64, MmFault>
+    ensures value { result ≡ value_option number value }
+    ensures range { IfOk result (λ v. is_value v ≡ true) }
+{
+    match value {
         None => Err(MmFault::EntryLine { line: number }),
         Some((minus, size)) => value_number(number, minus, size),
     }

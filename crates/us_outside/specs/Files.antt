@@ -1,5 +1,5 @@
 -- The files of an outside, and what its calls do to them.
-use Rattle.std.specs.Prelude.{◌≡◌, ℕ, ◌-◌, ◌<◌, ◌≤◌, ◌⊎◌, List, [], ◌++◌, length, take, drop, unwrap_or, Option}
+use Rattle.std.specs.Prelude.{◌≡◌, ℕ, ◌-◌, ◌<◌, ◌≤◌, min, ◌⊎◌, List, [], ◌++◌, length, take, drop, unwrap_or, Option}
 use Rattle.std.specs.Option.{option_map}
 use Rattle.std.specs.Ordering.{nat_cmp}
 use Rattle.std.specs.Cmp.Lexicographic.{slice_cmp}
@@ -22,6 +22,11 @@ pub record IsFetch (bytes : List ℕ) (from n : ℕ) (room : List ℕ) : Type 0 
   pub within : n ≤ length bytes - from
   pub front : take n room ≡ take n (drop from bytes)
   pub some : 0 < length room → from < length bytes → 0 < n
+
+-- n bytes from a place on, in the front of the room: as many as there are, or as fit
+pub record IsFilled (bytes : List ℕ) (from n : ℕ) (room : List ℕ) : Type 0 where
+  pub count : n ≡ min (length room) (length bytes - from)
+  pub front : take n room ≡ take n (drop from bytes)
 
 -- a file is as before, or the first k of these bytes
 abbrev pub StoresPart : List ℕ → List ℕ → Option Files → Option Files → Type 0

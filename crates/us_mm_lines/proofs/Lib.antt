@@ -1,0 +1,7 @@
+pub mod LineLemmas
+pub mod WordLemmas
+pub mod DecimalLemmas
+pub mod WrittenLemmas
+pub mod WordStateLemmas
+pub mod LineStateLemmas
+pub mod CountLemmas
