@@ -1,3 +1,5 @@
 pub mod EntryCounts
 pub mod Tallies
 pub mod Ranking
+pub mod Placing
+pub mod Filling

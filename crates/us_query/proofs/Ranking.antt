@@ -17,7 +17,7 @@ use Rattle.us_format.specs.Queries.{order_cell, rank_of, weight}
 use Rattle.us_format.proofs.Counting.{count-cons}
 use Rattle.us_format.proofs.Queries.{order-is}
 use Rattle.us_query.specs.declared.order.Weighted.{Weighted}
-use Rattle.us_query.specs.Ranked.{goes_before, ranked_at}
+use Rattle.us_query.specs.Ranked.{AreRanked, goes_before, ranked_at}
 use Rattle.us_query.proofs.EntryCounts.{count-map}
 
 -- ---- the order
@@ -188,6 +188,11 @@ module _ (m : List Entry) (s : Shape) (axis : Axis) where
             let a : ℕ = (get_or rs x none).index in
             get_or-map (λ (r : Weighted). r.index) rs x none 0 l ∙ sym (order-is m s axis a (each x none l).1) ∙ ap (order_cell m s axis) (rank-here x l)
             ∙ sym (get_or-map-range_with_len (order_cell m s axis) 0 count x x 0 (omega (arith, l, long)) (omega arith))
+
+    pub ranked : AreRanked m s axis (map (λ (r : Weighted). r.index) rs)
+    ranked x l =
+        let k : x < length rs = omega (arith, l, long) in
+        subst (λ (a : ℕ). (a < count) × (rank_of m s axis a ≡ x)) (sym (get_or-map (λ (r : Weighted). r.index) rs x none 0 k)) ((each x none k).1, rank-here x k)
 
   -- the weighted indices that the code makes
   pub made-own : (ws : List ℕ) → ws ≡ map (weight m axis) (range_with_len 0 count) → map (ranked_at ws) (range_with_len 0 (length ws)) ≡ map own (range_with_len 0 count)

@@ -1,8 +1,8 @@
 -- Weights in the making.
 use Rattle.std.specs.List.{range_with_len}
-use Rattle.std.proofs.Common.{◌≡◌, ℕ, zero, suc, ◌+◌, ◌<◌, ◌≤◌, ◌⊎◌, List, [], ◌∷◌, map, length, get_or, set, take, replicate, cond, eqb, sym, ap, ap₂, ◌∙◌, subst, inl, inr, arith, All, Bool, count_by, eq-eqb}
+use Rattle.std.proofs.Common.{◌≡◌, ℕ, zero, suc, ◌+◌, ◌<◌, ◌≤◌, ◌⊎◌, List, [], ◌∷◌, map, length, get_or, set, take, replicate, cond, eqb, sym, ap, ap₂, ◌∙◌, subst, inl, inr, arith, All, Bool, count_by, eq-eqb, refl, sum}
 use Rattle.std.proofs.lemmas.Bool.{cases_eq, ne_eqb}
-use Rattle.std.proofs.lemmas.List.Sums.{count_by-le-length}
+use Rattle.std.proofs.lemmas.List.Sums.{count_by-le-length, sum_by-cons, sum_by-set}
 use Rattle.std.proofs.lemmas.List.{ext_get_or, get_or_default, length-take-le, get_or-replicate, get_or-set_other, get_or-set_same, length-map, length-replicate, length-set, take_all}
 use Rattle.std.proofs.lemmas.List.FromFn.{get_or-map-range_with_len, length-range_with_len}
 use Rattle.us_expr.specs.declared.queries.Axis.{Axis}
@@ -17,20 +17,27 @@ use Rattle.us_query.proofs.EntryCounts.{count-map, count-more}
 plus-none : (x : ℕ) → x + 0 ≡ x
 plus-none x = omega arith
 
+sum-zeros : (n : ℕ) → sum (replicate n 0) ≡ 0
+sum-zeros zero = refl
+sum-zeros (suc n) = sum_by-cons (λ (x : ℕ). x) 0 (replicate n 0) ∙ omega (arith, sum-zeros n)
+
 module _ (axis : Axis) where
   -- the weights of n indices by these entries
   pub record IsTally (n : ℕ) (ts : List Triple) (ws : List ℕ) : Type 0 where
     pub long : length ws ≡ n
     pub each : (a : ℕ) → a < n → get_or ws a 0 ≡ count_by (λ t. eqb (index_at axis (plain_entry t)) a) ts
+    pub total : sum ws ≡ length ts
 
   pub tally-none : (n : ℕ) → IsTally n [] (replicate n 0)
-  tally-none n = record { long = length-replicate n 0; each = λ a l. get_or-replicate n a 0 0 l }
+  tally-none n = record { long = length-replicate n 0; each = λ a l. get_or-replicate n a 0 0 l; total = sum-zeros n }
 
   pub tally-next : (n : ℕ) (es : List Triple) (k : ℕ) (d : Triple) (ws : List ℕ) (i : ℕ) → k < length es → i ≡ index_at axis (plain_entry (get_or es k d)) → i < n → IsTally n (take k es) ws
       → IsTally n (take (k + 1) es) (set ws i (get_or ws i 0 + 1))
   tally-next n es k d ws i l e b h = record {
     long = length-set ws i (get_or ws i 0 + 1) ∙ h.long;
     each = λ a m. go a m (cases_eq a i);
+    total =
+        omega (arith, sum_by-set (λ (x : ℕ). x) ws i (get_or ws i 0 + 1) 0 (omega (arith, h.long, b)), h.total, length-take-le k es (omega (arith, l)), length-take-le (k + 1) es (omega (arith, l)));
   }
     where
       more : (a : ℕ) → count_by (λ t. eqb (index_at axis (plain_entry t)) a) (take (k + 1) es) ≡ count_by (λ t. eqb (index_at axis (plain_entry t)) a) (take k es) + cond (eqb i a) 1 0
@@ -58,6 +65,9 @@ module _ (axis : Axis) where
           h.each a m ∙ ap (λ (ts : List Triple). count_by (λ t. eqb (index_at axis (plain_entry t)) a) ts) (take_all k es l)
           ∙ sym (count-map plain_entry (λ y. eqb (index_at axis y) a) es)
           ∙ sym (get_or-map-range_with_len (weight (plain_entries es) axis) 0 n a a 0 m (omega arith))
+
+pub tally-total : (axis : Axis) (n : ℕ) (es : List Triple) (k : ℕ) (ws : List ℕ) → length es ≤ k → IsTally axis n (take k es) ws → sum ws ≡ length es
+tally-total axis n es k ws l h = h.total ∙ ap (λ (ts : List Triple). length ts) (take_all k es l)
 
 entries-inside : (rows cols : ℕ) (ts : List Triple) → AreEntries rows cols ts → (k : ℕ) (d : Triple) → k < length ts → ((get_or ts k d).i < rows) × ((get_or ts k d).j < cols)
 entries-inside rows cols [] h k d l = absurd (omega arith)

@@ -2,10 +2,12 @@
 #![tactic(auto)]
 
 mod counting;
+mod lanes;
 mod numbers;
 mod order;
 mod values;
 mod weights;
 
+pub use lanes::{LaneTable, schedule};
 pub use numbers::{enumerate, enumerate_extent, sums};
 pub use order::reorder;

@@ -6,7 +6,7 @@ ghost use Rattle.std.specs.Ordering.{is_lt};
 ghost use Rattle.us_format.specs.Matrix.{indices};
 ghost use Rattle.us_format.specs.Program.{entries_in, shape_in};
 ghost use Rattle.us_format.specs.Queries.{order_cell};
-ghost use Rattle.us_query.specs.Ranked.{goes_before, ranked_at};
+ghost use Rattle.us_query.specs.Ranked.{AreRanked, goes_before, ranked_at};
 
 use crate::weights::weights;
 use std::alloc::{AllocError, Global};
@@ -66,7 +66,8 @@ fn indices_of(alloc: Global, weighted: &[Weighted]) -> Result<Vec<u32>, AllocErr
 /// Fails only where memory is wanting.
 pub fn reorder(alloc: Global, matrix: &Matrix, axis: Axis) -> Result<Vec<u32>, AllocError>
     requires { indices axis (shape_in matrix.now) ≤ 67108864 }
-    ensures { IfOk result (λ ns. ns.items ≡ map (order_cell (entries_in matrix.now) (shape_in matrix.now) axis) (range_with_len 0 (indices axis (shape_in matrix.now)))) }
+    ensures order { IfOk result (λ ns. ns.items ≡ map (order_cell (entries_in matrix.now) (shape_in matrix.now) axis) (range_with_len 0 (indices axis (shape_in matrix.now)))) }
+    ensures ranks { IfOk result (λ ns. AreRanked (entries_in matrix.now) (shape_in matrix.now) axis ns.items) }
 {
     let weights = weights(alloc, matrix, axis)?;
     let mut weighted = with_weights(alloc, &weights)?;

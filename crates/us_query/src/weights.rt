@@ -1,5 +1,5 @@
 // How many entries each row or column has.
-ghost use Rattle.std.specs.Prelude.{◌≡◌, ◌<◌, All, IfOk, map};
+ghost use Rattle.std.specs.Prelude.{◌≡◌, ◌^◌, ◌<◌, All, IfOk, length, map, sum};
 ghost use Rattle.std.specs.List.{range_with_len};
 ghost use Rattle.std.proofs.Common.{replicate};
 ghost use Rattle.us_format.specs.Matrix.{index_at, indices};
@@ -31,7 +31,7 @@ fn indices(shape: Shape, axis: Axis) -> u32
 }
 
 // So many weights of 0.
-fn zeros(alloc: Global, count: usize) -> Result<Vec<usize>, AllocError>
+pub fn zeros(alloc: Global, count: usize) -> Result<Vec<usize>, AllocError>
     ensures { IfOk result (λ v. v.items ≡ replicate count 0) }
 {
     vec![in alloc; 0usize; count]
@@ -45,7 +45,8 @@ fn tally(
     axis: Axis,
 ) -> Result<Vec<usize>, AllocError>
     requires { All (λ t. index_at axis (plain_entry t) < count) entries.now }
-    ensures { IfOk result (λ ws. ws.items ≡ map (weight (plain_entries entries.now) axis) (range_with_len 0 count)) }
+    ensures weights { IfOk result (λ ws. ws.items ≡ map (weight (plain_entries entries.now) axis) (range_with_len 0 count)) }
+    ensures total { IfOk result (λ ws. sum ws.items ≡ length entries.now) }
 {
     let mut weights = zeros(alloc, count)?;
     for t in entries {
@@ -57,7 +58,8 @@ fn tally(
 
 /// For each row, or each column, how many entries it has.
 pub fn weights(alloc: Global, matrix: &Matrix, axis: Axis) -> Result<Vec<usize>, AllocError>
-    ensures { IfOk result (λ ws. ws.items ≡ map (weight (entries_in matrix.now) axis) (range_with_len 0 (indices axis (shape_in matrix.now)))) }
+    ensures weights { IfOk result (λ ws. ws.items ≡ map (weight (entries_in matrix.now) axis) (range_with_len 0 (indices axis (shape_in matrix.now)))) }
+    ensures total { IfOk result (λ ws. sum ws.items < 2 ^ 64) }
 {
     let shape = matrix.shape();
     let entries = matrix.entries();

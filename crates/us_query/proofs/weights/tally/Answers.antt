@@ -1,5 +1,5 @@
 use Rattle.std.proofs.Common.{◌≤◌, ◌-◌, ◌^◌, List, [], ℕ, length, pos, rules, arith, sym, subst}
-use Rattle.us_query.proofs.Tallies.{IsTally, tally-bound, tally-is, tally-none, tally-step}
+use Rattle.us_query.proofs.Tallies.{IsTally, tally-bound, tally-is, tally-none, tally-step, tally-total}
 use Rattle.us_query.proofs.weights.tally.Goals as goal
 
 pub loop-t-init : goal.loop-t-init
@@ -25,5 +25,8 @@ loop-t-preserved c =
     tally-step c.args.axis c.args.count c.args.entries.now c.loop-t.t-index (record { i = 0; j = 0; v = pos 0 }) c.loop-t.weights.items c.index_of-a.result c.index_mut.result.now _ c.loop-t-test.true
     c.index_of-a.ensures (omega (arith, c.index_of-a.ensures, inside)) c.index_mut.ensures.value c.loop-t.invariant
 
-pub returns : goal.returns
-returns c = tally-is c.args.axis c.args.count c.args.entries.now c.loop-t.t-index c.loop-t.weights.items c.loop-t-test.false c.loop-t.invariant
+pub returns-clause-weights : goal.returns-clause-weights
+returns-clause-weights c = tally-is c.args.axis c.args.count c.args.entries.now c.loop-t.t-index c.loop-t.weights.items c.loop-t-test.false c.loop-t.invariant
+
+pub returns-clause-total : goal.returns-clause-total
+returns-clause-total c = tally-total c.args.axis c.args.count c.args.entries.now c.loop-t.t-index c.loop-t.weights.items c.loop-t-test.false c.loop-t.invariant

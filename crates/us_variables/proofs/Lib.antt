@@ -1,0 +1,4 @@
+pub mod Values
+pub mod Inverse
+pub mod Steps
+pub mod Indices

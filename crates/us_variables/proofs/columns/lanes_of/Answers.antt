@@ -1,0 +1,25 @@
+use Rattle.std.proofs.Common.{◌∙◌, ap, pos, arith}
+use Rattle.us_format.specs.Matrix.{index_at}
+use Rattle.us_query.specs.Lanes.{lane_in}
+use Rattle.us_query.proofs.Tallies.{inside}
+use Rattle.us_variables.proofs.Values.{column-end, column-more}
+use Rattle.us_variables.proofs.columns.lanes_of.Goals as goal
+
+pub lane-requires : goal.lane-requires
+lane-requires c =
+    omega (
+      arith,
+      c.index_of.ensures,
+      inside c.args.axis c.args.matrix.now c.entries-entries.result.now c.args.table.now.count c.entries-entries.ensures.matrix c.entries-entries.ensures.value c.requires c.loop-t.t-index
+          (record { i = 0; j = 0; v = pos 0 }) c.loop-t-test.true,
+    )
+
+pub loop-t-preserved : goal.loop-t-preserved
+loop-t-preserved c =
+    column-more (λ x. lane_in c.args.table.now.lanes (index_at c.args.axis x)) c.entries-entries.result.now c.loop-t.t-index (record { i = 0; j = 0; v = pos 0 }) c.loop-t.column.items c.push.new.self.items c.lane.result
+    c.loop-t-test.true c.loop-t.invariant c.in_ok-push.ensures.items (c.lane.ensures ∙ ap (lane_in c.args.table.now.lanes) c.index_of.ensures)
+
+pub returns : goal.returns
+returns c =
+    column-end (λ x. lane_in c.args.table.now.lanes (index_at c.args.axis x)) c.args.matrix.now c.entries-entries.result.now c.loop-t.t-index c.loop-t.column.items c.loop-t-test.false c.entries-entries.ensures.value
+    c.loop-t.invariant
