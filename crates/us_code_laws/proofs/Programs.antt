@@ -20,27 +20,27 @@ use Rattle.us_code_laws.proofs.Sound.{sound, and_right, lt_means, same_size}
 use Rattle.us_code_laws.proofs.Sequence.{put_same}
 use Rattle.us_code_laws.proofs.Unbounds.{flat_some, next_some}
 
-abbrev state_of : (ℕ → ℤ) → World → State
+abbrev pub state_of : (ℕ → ℤ) → World → State
 state_of regs w = record { regs = regs; bufs = w.bufs; steps = w.steps; stuck = false }
 
 -- what holds between the lines of a phase
-record Ready (g : Context) (regs : ℕ → ℤ) (w : World) : Type 0 where
-  closed : Closed g
-  fits : Fits g w.env (state_of regs w)
+pub record Ready (g : Context) (regs : ℕ → ℤ) (w : World) : Type 0 where
+  pub closed : Closed g
+  pub fits : Fits g w.env (state_of regs w)
 
 -- nothing is stuck, and what goes on has P
-abbrev Goes : (World → Type 0) → Ran → Type 0
+abbrev pub Goes : (World → Type 0) → Ran → Type 0
 Goes P (Went w) = P w
 Goes P (TooLarge n) = Unit {0}
 Goes P Stuck = ⊥
 
-goes_bind : (P Q : World → Type 0) (r : Ran) (f : World → Ran) → Goes P r → ((w : World) → P w → Goes Q (f w)) → Goes Q (r >>= f)
+pub goes_bind : (P Q : World → Type 0) (r : Ran) (f : World → Ran) → Goes P r → ((w : World) → P w → Goes Q (f w)) → Goes Q (r >>= f)
 goes_bind P Q (Went w) f p k = k w p
 goes_bind P Q (TooLarge n) f p k = tt
 goes_bind P Q Stuck f p k = absurd p
 
 -- a length or a dim, and where it is too large
-goes_within : (P : World → Type 0) (n : ℕ) (old new : World) → P record { env = new.env; bufs = new.bufs; steps = old.steps + 1 } → Goes P (within n old new)
+pub goes_within : (P : World → Type 0) (n : ℕ) (old new : World) → P record { env = new.env; bufs = new.bufs; steps = old.steps + 1 } → Goes P (within n old new)
 goes_within P n old new p = case (nat_lt 67108865 n)
   where
     case : (b : Bool) → Goes P (cond b (TooLarge (old.steps + 1)) (Went record { env = new.env; bufs = new.bufs; steps = old.steps + 1 }))
@@ -112,7 +112,7 @@ cell_seen g (buf.New b) c = of (g.bufs b) (c.bufs b)
     of None d = refl
     of (Some k) d = d.1
 
-closed_outer : (g : Context) (c : Code) → Typed g c → Closed g → Closed (outer g c)
+pub closed_outer : (g : Context) (c : Code) → Typed g c → Closed g → Closed (outer g c)
 closed_outer g End t c = c
 closed_outer g (Let r e rest) t c = closed_outer (with_reg g r false (kind_of g e)) rest t.2 (closed_reg g r false (kind_of g e) (kind_seen g e c t.1) c)
 closed_outer g (Load r b at rest) t c = closed_outer (with_reg g r false (cell_of g b)) rest t.4 (closed_reg g r false (cell_of g b) (cell_seen g b c) c)
@@ -154,7 +154,7 @@ zero_in : (g : Context) (env : Env) (regs : ℕ → ℤ) (s : State) (k : CellKi
 zero_in g env regs s kind.Word len x v f h lt e = tt
 zero_in g env regs s (kind.Below d) len x v f h lt e = (0, e, room g env regs s d len x f h lt)
 
-make_goes : (g : Context) (regs : ℕ → ℤ) (m : Make) (w : World) → sees_dim g m.len ≡ true → sees_cell g m.cell ≡ true → cell_has_room g m.cell m.len ≡ true → Ready g regs w → Goes (Ready (with_buf g m) regs) (make m w)
+pub make_goes : (g : Context) (regs : ℕ → ℤ) (m : Make) (w : World) → sees_dim g m.len ≡ true → sees_cell g m.cell ≡ true → cell_has_room g m.cell m.len ≡ true → Ready g regs w → Goes (Ready (with_buf g m) regs) (make m w)
 unfolding put
 make_goes g regs m w see_len see_cell has r =
     let h = with_buf g m in
@@ -168,7 +168,7 @@ make_goes g regs m w see_len see_cell has r =
       fits = record { regs = r.fits.regs; bufs = λ x. bufs x (eqb m.buf x); dims = r.fits.dims };
     }
 
-makes_go : (g : Context) (regs : ℕ → ℤ) (ms : List Make) (w : World) → TypedMakes g ms → Ready g regs w → Goes (Ready (with_bufs g ms) regs) (make_all ms w)
+pub makes_go : (g : Context) (regs : ℕ → ℤ) (ms : List Make) (w : World) → TypedMakes g ms → Ready g regs w → Goes (Ready (with_bufs g ms) regs) (make_all ms w)
 makes_go g regs [] w t r = r
 makes_go g regs (m ∷ ms) w t r = goes_bind (Ready (with_buf g m) regs) (Ready (with_bufs (with_buf g m) ms) regs) (make m w) (make_all ms) (make_goes g regs m w t.1 t.2 t.3 r) (λ u k. makes_go (with_buf g m) regs ms u t.4 k)
 
@@ -177,7 +177,7 @@ abbrev env_with : Env → ℕ → ℕ → ℕ → Env
 env_with env d n f = record { dims = put env.dims d n; factors = put env.factors d f; sources = env.sources }
 
 module _ (g : Context) (env : Env) (d n f : ℕ) (none : g.dims d ≡ None) where
-  size_kept : (e : Dim) → sees_dim g e ≡ true → size_of (env_with env d n f) e ≡ size_of env e
+  pub size_kept : (e : Dim) → sees_dim g e ≡ true → size_of (env_with env d n f) e ≡ size_of env e
   unfolding put
   size_kept (dim.Number k) see = refl
   size_kept (dim.Len k) see = refl
@@ -235,7 +235,7 @@ module _ (g : Context) (env : Env) (d n f : ℕ) (none : g.dims d ≡ None) wher
   factor_here : (env_with env d n f).factors d ≡ f
   factor_here = put_same env.factors d f
 
-line_goes : (g : Context) (regs : ℕ → ℤ) (l : LineTree) (w : World) → TypedLine g l → Ready g regs w → Goes (Ready (with_line g l) regs) (line regs l w)
+pub line_goes : (g : Context) (regs : ℕ → ℤ) (l : LineTree) (w : World) → TypedLine g l → Ready g regs w → Goes (Ready (with_line g l) regs) (line regs l w)
 line_goes g regs (plain.Of d e) w t r =
     let n = whole (value w.env regs e) in
     goes_within (Ready (with_form g d Of) regs) n w (with_dim d n 0 w) (dim_goes g w.env d n 0 t.0 regs w Of refl tt tt r.fits r.closed (w.steps + 1))
@@ -249,12 +249,12 @@ line_goes g regs (plain.Successor d a) w t r =
     let new : FormOk (env_with w.env d n 0) (Some (Successor a)) d = here g w.env d n 0 t.0 ∙ ap (λ p. p + 1) (sym (size_kept g w.env d n 0 t.0 a t.1)) in
     goes_within (Ready (with_form g d (Successor a)) regs) n w (with_dim d n 0 w) (dim_goes g w.env d n 0 t.0 regs w (Successor a) refl t.1 new r.fits r.closed (w.steps + 1))
 
-lines_go : (g : Context) (regs : ℕ → ℤ) (ls : List LineTree) (w : World) → TypedLines g ls → Ready g regs w → Goes (Ready (with_lines g ls) regs) (line_all regs ls w)
+pub lines_go : (g : Context) (regs : ℕ → ℤ) (ls : List LineTree) (w : World) → TypedLines g ls → Ready g regs w → Goes (Ready (with_lines g ls) regs) (line_all regs ls w)
 lines_go g regs [] w t r = r
 lines_go g regs (l ∷ ls) w t r = goes_bind (Ready (with_line g l) regs) (Ready (with_lines (with_line g l) ls) regs) (line regs l w) (line_all regs ls) (line_goes g regs l w t.0 r) (λ u k. lines_go (with_line g l) regs ls u t.1 k)
 
 -- a phase
-forget : (g : Context) (regs : ℕ → ℤ) (w : World) → Ready g regs w → Ready (without_regs g) (λ r. pos 0) w
+pub forget : (g : Context) (regs : ℕ → ℤ) (w : World) → Ready g regs w → Ready (without_regs g) (λ r. pos 0) w
 forget g regs w r =
     let h = without_regs g in
     record {
@@ -267,7 +267,7 @@ goes_weaker P Q (Went w) k p = k w p
 goes_weaker P Q (TooLarge n) k p = tt
 goes_weaker P Q Stuck k p = p
 
-body_goes : (g : Context) (c : Code) (ls : List LineTree) (u : World) → Typed g c → TypedLines (outer g c) ls → Ready g (λ r. pos 0) u → Goes (Ready (without_regs (with_lines (outer g c) ls)) (λ r. pos 0)) (after_body (exec u.env c (begin u)) ls u)
+pub body_goes : (g : Context) (c : Code) (ls : List LineTree) (u : World) → Typed g c → TypedLines (outer g c) ls → Ready g (λ r. pos 0) u → Goes (Ready (without_regs (with_lines (outer g c) ls)) (λ r. pos 0)) (after_body (exec u.env c (begin u)) ls u)
 body_goes g c ls u t tl r =
     let s = exec u.env c (begin u) in
     let w : World = record { env = u.env; bufs = s.bufs; steps = s.steps } in
@@ -276,7 +276,7 @@ body_goes g c ls u t tl r =
     let gone = goes_weaker (Ready (with_lines (outer g c) ls) s.regs) (Ready (without_regs (with_lines (outer g c) ls)) (λ r. pos 0)) (line_all s.regs ls w) (λ v k. forget (with_lines (outer g c) ls) s.regs v k) (lines_go (outer g c) s.regs ls w tl ready) in
     subst (λ (b : Bool). Goes (Ready (without_regs (with_lines (outer g c) ls)) (λ r. pos 0)) (cond b Stuck (line_all s.regs ls w))) (sym done.stuck) gone
 
-phase_goes : (g : Context) (p : PhaseTree) (w : World) → TypedMakes g p.makes → Typed (in_body g p) p.body → TypedLines (in_lines g p) p.lines → Ready g (λ r. pos 0) w → Goes (Ready (after_phase g p) (λ r. pos 0)) (phase p w)
+pub phase_goes : (g : Context) (p : PhaseTree) (w : World) → TypedMakes g p.makes → Typed (in_body g p) p.body → TypedLines (in_lines g p) p.lines → Ready g (λ r. pos 0) w → Goes (Ready (after_phase g p) (λ r. pos 0)) (phase p w)
 phase_goes g p w tm tb tl r =
     goes_bind (Ready (in_body g p) (λ r. pos 0)) (Ready (after_phase g p) (λ r. pos 0)) (make_all p.makes w) (λ u. after_body (exec u.env p.body (begin u)) p.lines u) (makes_go g (λ r. pos 0) p.makes w tm r) (λ u k. body_goes (in_body g p) p.body p.lines u tb tl k)
 

@@ -78,7 +78,7 @@ fits_below env (kind.Below (dim.Len m)) (dim.Number n) v h i = absurd cc
 fits_below env (kind.Below (dim.Len m)) (dim.Name n) v h i = absurd cc
 fits_below env (kind.Below (dim.Len m)) (dim.Len n) v h i = (i.0, i.1, subst (λ (x : ℕ). i.0 < length (env.sources x)) (eqb_means m n h) i.2)
 
-fits_in_cell : (env : Env) (k c : CellKind) (v : ℤ) → fits_cell k c ≡ true → InKind env k v → InKind env c v
+pub fits_in_cell : (env : Env) (k c : CellKind) (v : ℤ) → fits_cell k c ≡ true → InKind env k v → InKind env c v
 fits_in_cell env k kind.Word v h i = tt
 fits_in_cell env k (kind.Below d) v h i = fits_below env k d v h i
 
@@ -86,11 +86,11 @@ number_ok : (env : Env) (n : ℕ) (b : Bool) → InKind env (cond b (kind.Below 
 number_ok env n true = (n, refl, omega arith)
 number_ok env n false = tt
 
-reg_ok : (env : Env) (o : Option RegKind) (v : ℤ) → RegOk env o v → InKind env (reg_kind o) v
+pub reg_ok : (env : Env) (o : Option RegKind) (v : ℤ) → RegOk env o v → InKind env (reg_kind o) v
 reg_ok env None v h = tt
 reg_ok env (Some k) v h = h.1
 
-flat_ok : (env : Env) (o : Option Form) (d : ℕ) (kp kc : CellKind) (p c : ℤ) → FormOk env o d → is_flat o kp kc ≡ true → InKind env kp p → InKind env kc c → (n : ℕ) × (p *ℤ pos (env.factors d) +ℤ c ≡ pos n) × (n < env.dims d)
+pub flat_ok : (env : Env) (o : Option Form) (d : ℕ) (kp kc : CellKind) (p c : ℤ) → FormOk env o d → is_flat o kp kc ≡ true → InKind env kp p → InKind env kc c → (n : ℕ) × (p *ℤ pos (env.factors d) +ℤ c ≡ pos n) × (n < env.dims d)
 flat_ok env None d kp kc p c f h ip ic = absurd cc
 flat_ok env (Some Of) d kp kc p c f h ip ic = absurd cc
 flat_ok env (Some (Successor e)) d kp kc p c f h ip ic = absurd cc
@@ -101,7 +101,7 @@ flat_ok env (Some (Product e g)) d kp kc p c f h ip ic =
     let m : a.0 * size_of env g + b.0 < size_of env g * size_of env e = mul-add-lt a.0 (size_of env g) b.0 (size_of env e) a.2 b.2 in
     (a.0 * env.factors d + b.0, same, rw (f.0, f.1) (omega (arith, m)))
 
-next_ok : (env : Env) (o : Option Form) (d : ℕ) (k : CellKind) (x : ℤ) → FormOk env o d → is_next o k ≡ true → InKind env k x → (n : ℕ) × (x ≡ pos n) × (n + 1 < env.dims d)
+pub next_ok : (env : Env) (o : Option Form) (d : ℕ) (k : CellKind) (x : ℤ) → FormOk env o d → is_next o k ≡ true → InKind env k x → (n : ℕ) × (x ≡ pos n) × (n + 1 < env.dims d)
 next_ok env None d k x f h i = absurd cc
 next_ok env (Some Of) d k x f h i = absurd cc
 next_ok env (Some (Product e g)) d k x f h i = absurd cc
@@ -141,7 +141,7 @@ pub place_ok : (v : ℤ) (n k : ℕ) → v ≡ pos k → k < n → place v n ≡
 place_ok v n k e h = ap (λ (z : ℤ). place z n) e ∙ ap (λ b. cond b (Some k) None) (lt_so k n h)
 
 -- the text's buffers are those of the run
-source_or : (g : Context) (env : Env) (s : State) (b : Buf) → Fits g env s → sees_buf g b ≡ true → length (cells env s b) ≡ size_of env (len_of g b)
+pub source_or : (g : Context) (env : Env) (s : State) (b : Buf) → Fits g env s → sees_buf g b ≡ true → length (cells env s b) ≡ size_of env (len_of g b)
 source_or g env s (buf.Source k) f h = refl
 source_or g env s (buf.New b) f h = new_length (g.bufs b) (f.bufs b) h
   where
@@ -149,7 +149,7 @@ source_or g env s (buf.New b) f h = new_length (g.bufs b) (f.bufs b) h
     new_length None ok h = absurd cc
     new_length (Some k) ok h = ok.0
 
-cell_ok : (g : Context) (env : Env) (s : State) (b : Buf) (k : ℕ) → Fits g env s → sees_buf g b ≡ true → k < length (cells env s b) → InKind env (cell_of g b) (slice_index_or (cells env s b) k (pos 0))
+pub cell_ok : (g : Context) (env : Env) (s : State) (b : Buf) (k : ℕ) → Fits g env s → sees_buf g b ≡ true → k < length (cells env s b) → InKind env (cell_of g b) (slice_index_or (cells env s b) k (pos 0))
 cell_ok g env s (buf.Source x) k f h lt = tt
 cell_ok g env s (buf.New b) k f h lt = new_cell (g.bufs b) (f.bufs b) h
   where
@@ -158,7 +158,7 @@ cell_ok g env s (buf.New b) k f h lt = new_cell (g.bufs b) (f.bufs b) h
     new_cell (Some o) ok h = ok.1 k lt
 
 -- an index that fits is a place
-at_ok : (g : Context) (env : Env) (s : State) (b : Buf) (at : TermTree) → Fits g env s → sees_buf g b ≡ true → fine g at ≡ true → fits (kind_of g at) (len_of g b) ≡ true → (k : ℕ) × (k < length (cells env s b)) × (place (value env s.regs at) (length (cells env s b)) ≡ Some k)
+pub at_ok : (g : Context) (env : Env) (s : State) (b : Buf) (at : TermTree) → Fits g env s → sees_buf g b ≡ true → fine g at ≡ true → fits (kind_of g at) (len_of g b) ≡ true → (k : ℕ) × (k < length (cells env s b)) × (place (value env s.regs at) (length (cells env s b)) ≡ Some k)
 at_ok g env s b at f sees fine fit =
     let a = fits_below env (kind_of g at) (len_of g b) (value env s.regs at) fit (value_ok g env s at f fine) in
     let lt : a.0 < length (cells env s b) = omega (arith, a.2, source_or g env s b f sees) in
@@ -184,7 +184,7 @@ fits_buf g env s b ys new f = record {
   dims = f.dims;
 }
 
-fits_tick : (g : Context) (env : Env) (s : State) (n : ℕ) → Fits g env s → Fits g env (tick n s)
+pub fits_tick : (g : Context) (env : Env) (s : State) (n : ℕ) → Fits g env s → Fits g env (tick n s)
 fits_tick g env s n f = record { regs = f.regs; bufs = f.bufs; dims = f.dims }
 
 pub same_size : (env : Env) (d e : Dim) → same_dim d e ≡ true → size_of env d ≡ size_of env e
@@ -205,14 +205,14 @@ ends_form_ok env (Some (Product e e')) x d k f h lt = absurd cc
 ends_form_ok env (Some (Successor e)) x d k f h lt = omega (arith, f, same_size env e d h)
 
 -- both ends of a span
-record EndsOk (env : Env) (d : Dim) (v w : ℤ) : Type 0 where
-  first : ℕ
-  end : ℕ
-  first_is : v ≡ pos first
-  end_is : w ≡ pos end
-  within : end ≤ size_of env d
+pub record EndsOk (env : Env) (d : Dim) (v w : ℤ) : Type 0 where
+  pub first : ℕ
+  pub end : ℕ
+  pub first_is : v ≡ pos first
+  pub end_is : w ≡ pos end
+  pub within : end ≤ size_of env d
 
-spans_ok : (g : Context) (env : Env) (s : State) (j k : CellKind) (d : Dim) (v w : ℤ) → Fits g env s → spans g j k d ≡ true → InKind env j v → InKind env k w → EndsOk env d v w
+pub spans_ok : (g : Context) (env : Env) (s : State) (j k : CellKind) (d : Dim) (v w : ℤ) → Fits g env s → spans g j k d ≡ true → InKind env j v → InKind env k w → EndsOk env d v w
 spans_ok g env s kind.Word k d v w f h i j = absurd cc
 spans_ok g env s (kind.Below (dim.Number a)) kind.Word d v w f h i j = absurd cc
 spans_ok g env s (kind.Below (dim.Number a)) (kind.Below (dim.Number b)) (dim.Number n) v w f h i j =
@@ -235,7 +235,7 @@ put_word : (env : Env) (o : Option RegKind) (v w : ℤ) → RegOk env o v → is
 put_word env None v w ok h = absurd cc
 put_word env (Some k) v w ok h = (ok.0, subst (λ (c : CellKind). InKind env c w) (sym (ok.0 h)) tt)
 
-fits_put : (g : Context) (env : Env) (s : State) (r : ℕ) (w : ℤ) → is_put (g.regs r) ≡ true → Fits g env s → Fits g env (set_reg r w s)
+pub fits_put : (g : Context) (env : Env) (s : State) (r : ℕ) (w : ℤ) → is_put (g.regs r) ≡ true → Fits g env s → Fits g env (set_reg r w s)
 unfolding put
 fits_put g env s r w h f = record {
   regs = λ x. at x (eqb r x) (eqb_means r x);
@@ -259,7 +259,7 @@ place_kind env (pos x) n k h = below (nat_lt x n) (lt_means x n) h
 place_kind env (negsuc x) n k h = absurd cc
 
 -- the keys are as long as the ordered buffer
-keys_long : (g : Context) (env : Env) (s : State) (b : Buf) (keys : List Buf) → Fits g env s → sees_buf g b ≡ true → sees_bufs g keys ≡ true → are_keys g b keys ≡ true → all_long (length (cells env s b)) (map (cells env s) keys) ≡ true
+pub keys_long : (g : Context) (env : Env) (s : State) (b : Buf) (keys : List Buf) → Fits g env s → sees_buf g b ≡ true → sees_bufs g keys ≡ true → are_keys g b keys ≡ true → all_long (length (cells env s b)) (map (cells env s) keys) ≡ true
 keys_long g env s b [] f sees see h = refl
 keys_long g env s b (k ∷ ks) f sees see h =
     let first = and_left (same_dim (len_of g k) (len_of g b) && not (same_buf k b)) (are_keys g b ks) h in

@@ -1,4 +1,2 @@
 pub mod Counts
 pub mod Reads
-pub mod ReadsStmts
-pub mod ReadsPhases

@@ -1,15 +1,15 @@
 -- What a part of the reader does, wherever it stands.
-use Rattle.std.specs.Prelude.{◌≡◌, ◌+◌, length, ◌<◌, ℕ, ◌∷◌, suc, Result, Ok, Err, Option, Some, None}
+use Rattle.std.specs.Prelude.{◌≡◌, ◌+◌, length, ◌<◌, ℕ, [], ◌∷◌, suc, Result, Ok, Err, Option, Some, None}
 use Rattle.us_tokens.specs.Text as text
 use Rattle.us_tokens.specs.Text.{Text, left_of}
 use Rattle.us_tokens.specs.Cursor.{ahead}
 use Rattle.us_grammar.specs.Grammar.{Symbol, Fixed, Part, Row, Values}
 use Rattle.us_grammar.specs.Reading as reading
-use Rattle.us_grammar.specs.Reading.{Answer, NoToken, Form, Broken, scan}
+use Rattle.us_grammar.specs.Reading.{Answer, Read, NoToken, Form, Broken, scan}
 use Rattle.us_code_table.specs.declared.mark.Mark.{Mark}
 use Rattle.us_code_table.specs.declared.note.Note.{Note}
 use Rattle.us_code.specs.Plain.{ProgramTree, TermTree}
-use Rattle.us_code_table.specs.Table.{Nonterminal, Class, Word, Atom, Value, grammar}
+use Rattle.us_code_table.specs.Table.{Nonterminal, Class, Word, AOne, Atom, Value, grammar}
 use Rattle.us_code_table.specs.Words.{language, token}
 use Rattle.us_code_table.specs.Limits.{Break, TooBig, Count, limits}
 use Rattle.us_code_text.specs.Counts.{counted}
@@ -59,9 +59,20 @@ Reads n see r q (Ok v) = Goes n r q (see v) × (size (text_of q) < size (text_of
 Reads n see r q (Err e) = Fails n r e
 
 -- the same of a terminal
+abbrev pub ReadsClass : {X : Type 0} → Class → Reader → Reader → Result X Stop → Type 0
+ReadsClass c r q (Ok v) = ((x : Symbol Nonterminal Class) (s : Row grammar) (k : Values grammar (Fixed c ∷ x ∷ s) → ProgramTree) → Leads r (Fixed c ∷ x ∷ s) k q (x ∷ s) k) × (size (text_of q) < size (text_of r))
+ReadsClass c r q (Err e) = (x : Symbol Nonterminal Class) (s : Row grammar) (k : Values grammar (Fixed c ∷ x ∷ s) → ProgramTree) → Ends r (Fixed c ∷ x ∷ s) k (answer_of e)
+
 abbrev pub ReadsFixed : {X : Type 0} → Mark → Reader → Reader → Result X Stop → Type 0
-ReadsFixed c r q (Ok v) = ((x : Symbol Nonterminal Class) (s : Row grammar) (k : Values grammar (Fixed (Word c) ∷ x ∷ s) → ProgramTree) → Leads r (Fixed (Word c) ∷ x ∷ s) k q (x ∷ s) k) × (size (text_of q) < size (text_of r))
-ReadsFixed c r q (Err e) = (x : Symbol Nonterminal Class) (s : Row grammar) (k : Values grammar (Fixed (Word c) ∷ x ∷ s) → ProgramTree) → Ends r (Fixed (Word c) ∷ x ∷ s) k (answer_of e)
+ReadsFixed c r q o = ReadsClass (Word c) r q o
+
+abbrev pub ReadsOne : {X : Type 0} → Reader → Reader → Result X Stop → Type 0
+ReadsOne r q o = ReadsClass AOne r q o
+
+-- a terminal that ends the text
+abbrev pub ReadsLast : Mark → Reader → Result ℕ Stop → Type 0
+ReadsLast c r (Ok behind) = (more : Text Lexeme) × ((k : Values grammar (Fixed (Word c) ∷ []) → ProgramTree) → scan grammar limits (text_of r) (count_of r) (Fixed (Word c) ∷ []) k ≡ Read (k tt) behind more)
+ReadsLast c r (Err e) = (k : Values grammar (Fixed (Word c) ∷ []) → ProgramTree) → Ends r (Fixed (Word c) ∷ []) k (answer_of e)
 
 -- what has been read is the front of a part that ends with another one: given its value, the part's
 abbrev pub GoesInto : (n o : Nonterminal) → Reader → Reader → (Value o → Value n) → Type 0

@@ -1,12 +1,10 @@
-//! The text of loop code, read to programs.
+//! The text of loop code, read a token at a time, and its expressions.
 #![tactic(auto)]
 
 mod counting;
 mod exprs;
 mod meter;
-mod phases;
 mod reader;
-mod stmts;
 mod stop;
 
 pub use meter::Meter;

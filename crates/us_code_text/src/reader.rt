@@ -3,13 +3,14 @@
 ghost use Rattle.std.specs.Prelude.{◌≡◌, ◌<◌, true, false, OnOk, IfOk, IfErr, MatchOption};
 ghost use Rattle.us_tokens.specs.Front.{Tells};
 ghost use Rattle.us_tokens.specs.Text.{left_of};
+ghost use Rattle.us_tokens.specs.Lex.{lexed, Between};
 ghost use Rattle.us_tokens.specs.declared.next.Next.TheVariants.{Token as Here};
 ghost use Rattle.us_code_table.specs.Table.{Divisor, Register, DimName as DimPart, DimOrNumber, NewBuffer, Key, Count, Relation, Kind, GiveName};
-ghost use Rattle.us_code_table.specs.Limits.{value_fits};
-ghost use Rattle.us_code_table.specs.Words.{token};
-ghost use Rattle.us_code_text.specs.Reads.{text_of, size, Reads, ReadsFixed, Takes, Exceeds, Lacks, LacksFixed, refusal_of};
+ghost use Rattle.us_code_table.specs.Limits.{value_fits, nothing};
+ghost use Rattle.us_code_table.specs.Words.{language, token};
+ghost use Rattle.us_code_text.specs.Reads.{text_of, count_of, size, Reads, ReadsFixed, ReadsOne, ReadsLast, Takes, Exceeds, Lacks, LacksFixed, refusal_of};
 
-use crate::counting::behind;
+use crate::counting::{behind, none};
 use crate::meter::Meter;
 use crate::stop::Stop;
 use std::alloc::Global;
@@ -25,6 +26,20 @@ pub struct Reader<'a> {
     pub alloc: Global,
     pub cursor: Cursor<'a, Lexeme>,
     pub meter: Meter,
+}
+
+impl<'a> Reader<'a> {
+    /// At the first token of a text.
+    pub fn new(alloc: Global, bytes: &'a [u8]) -> Reader<'a>
+        ensures text { text_of result ≡ lexed language bytes.now Between }
+        ensures count { count_of result ≡ nothing }
+    {
+        Reader {
+            alloc,
+            cursor: Cursor::new(bytes),
+            meter: none(),
+        }
+    }
 }
 
 impl Reader<'_> {
@@ -72,6 +87,42 @@ impl Reader<'_> {
             return Err(self.refusal());
         }
         self.take(None, Lexeme::Fixed(mark))
+    }
+
+    /// How many bytes are left behind this word or symbol, which has to stand here and ends the text that is read.
+    pub fn last(&self, mark: Mark) -> Result<usize, Stop>
+        ensures { ReadsLast mark self.now result }
+    {
+        if !self.stands(mark) {
+            return Err(self.refusal());
+        }
+        match behind(self.meter, None, Lexeme::Fixed(mark)) {
+            Some(_) => Ok(self.cursor.behind()),
+            None => Err(Stop::TooBig(self.cursor.left())),
+        }
+    }
+
+    /// The number 1.
+    pub fn one(&mut self) -> Result<(), Stop>
+        ensures { ReadsOne self.old self.new result }
+    {
+        match self.cursor.peek() {
+            Next::Token(Lexeme::Number(1)) => self.take(None, Lexeme::Number(1)),
+            _ => Err(self.refusal()),
+        }
+    }
+
+    /// How many sources a program has.
+    pub fn count(&mut self) -> Result<u32, Stop>
+        ensures { Reads Count (λ k. k) self.old self.new result }
+    {
+        match self.cursor.peek() {
+            Next::Token(Lexeme::Number(number)) => {
+                self.take(Some(Note::SourceCount), Lexeme::Number(number))?;
+                Ok(self.meter.sources as u32)
+            }
+            _ => Err(self.refusal()),
+        }
     }
 
     /// The name of a register.

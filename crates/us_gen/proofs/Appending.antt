@@ -1,5 +1,5 @@
 -- What an append does to its columns.
-use Rattle.std.proofs.Common.{◌≡◌, ◌≢◌, ℕ, ◌+◌, ◌^◌, ◌<◌, ◌≤◌, Bool, true, false, cond, not, ◌&&◌, ◌||◌, eqb, nat_eq, nat_le, refl, sym, ap, ap₂, ◌∙◌, subst, arith, List, [], ◌∷◌, ◌++◌, length, length-append, take, pos, ℤ, ◌+ℤ◌, Option, Some, None, ◌⊎◌, inl, inr}
+use Rattle.std.proofs.Common.{◌≡◌, ◌≢◌, ℕ, ◌+◌, ◌<◌, Bool, true, false, not, ◌||◌, nat_eq, refl, sym, ap, ap₂, ◌∙◌, subst, arith, List, [], ◌∷◌, ◌++◌, length, length-append, take, pos, ℤ, ◌+ℤ◌, Option, Some, None}
 use Rattle.std.specs.Prelude.{slice_set}
 use Rattle.std.specs.Int.{int_wrap}
 use Rattle.std.proofs.lemmas.List.{take_more_set, length-set}
@@ -7,18 +7,15 @@ use Rattle.std.proofs.lemmas.Bool.Decides.{nat_tests}
 use mir.Syntax.{w64}
 use Rattle.us_code.specs.declared.program.Dim.{Dim}
 use Rattle.us_code.specs.declared.program.Dim.TheVariants as dim
-use Rattle.us_code.specs.declared.program.Buf.TheVariants as buf
 use Rattle.us_code.specs.declared.program.CellKind.TheVariants as kind
-use Rattle.us_code.specs.Plain.{TermTree, Number, Reg, Add, Code, End, Put, Set, When}
-use Rattle.us_code.specs.Run.{Env, State, put, exec, size_of, value, tick, set_reg, set_buf}
-use Rattle.us_code.specs.Typing.{Context, RegKind, BufKind, is_some, reg_kind, is_put, buf_len, buf_cell, with_reg, fits, fits_cell, sees_dim, kind_of, fine, Typed}
+use Rattle.us_code.specs.Plain.{Number, Reg, Add, Code, End, Put}
+use Rattle.us_code.specs.Run.{Env, State, put, exec, value, tick, set_reg, set_buf}
+use Rattle.us_code.specs.Typing.{Context, RegKind, is_some, reg_kind, is_put, buf_len, buf_cell, with_reg, fits, fits_cell, kind_of, Typed}
 use Rattle.us_code_laws.proofs.Rules.{statement_rules}
 use Rattle.us_code_laws.proofs.Sequence.{put_same, put_other}
 use Rattle.us_code_laws.proofs.Sound.{and_left, and_right, both_true}
-use Rattle.us_gen.specs.Columns.{Column, sets, append, fills, are_apart, Ready, Appended, Appends, Holds, HoldsMore, ColumnsTyped, AppendsTyped}
-use Rattle.us_gen.specs.Rooms.{FreshFrom}
+use Rattle.us_gen.specs.Columns.{Column, sets, append, fills, are_apart, Ready, Appended, Appends, HoldsMore, ColumnsTyped, AppendsTyped}
 use Rattle.us_gen.proofs.LevelRuns.{wrap_small}
-use Rattle.us_gen.proofs.NestsFit.{fresh_more}
 
 pub holds_more : HoldsMore
 holds_more xs cells m k v e lt h =

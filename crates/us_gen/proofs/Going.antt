@@ -1,6 +1,7 @@
 -- Phases, `new` lines and dim lines, one after the other.
 use Rattle.std.proofs.Common.{◌≡◌, ◌≢◌, ℕ, ◌+◌, ◌*◌, ◌<◌, ◌≤◌, Bool, false, cond, nat_lt, refl, sym, ap, ◌∙◌, subst, arith, List, [], ◌∷◌, ◌++◌, pos, ℤ}
 use Rattle.std.proofs.lemmas.Bool.Decides.{nat_tests}
+use Rattle.us_code.specs.declared.program.Dim.{Dim}
 use Rattle.us_code.specs.declared.program.Make.{Make}
 use Rattle.us_code.specs.Plain.{LineTree, PhaseTree, TermTree}
 use Rattle.us_code.specs.Plain as plain
@@ -135,3 +136,9 @@ new_leads low cost m ms w Q le size x = record { end = x.end; arrives = new_more
 
 pub line_leads : (low cost : ℕ) (regs : ℕ → ℤ) (d n : ℕ) (e : TermTree) (ls : List LineTree) (w : World) (Q : World → Type 0) → low ≤ d → value w.env regs e ≡ pos n → n ≤ 67108865 → Leads low cost (lined d n 0 w) (line_all regs ls (lined d n 0 w)) Q → Leads low (cost + 1) w (line_all regs (plain.Of d e ∷ ls) w) Q
 line_leads low cost regs d n e ls w Q le is size x = record { end = x.end; arrives = line_of low cost regs d n e ls w x.end le is size x.arrives; post = x.post }
+
+pub product_leads : (low cost : ℕ) (regs : ℕ → ℤ) (d : ℕ) (left right : Dim) (ls : List LineTree) (w : World) (Q : World → Type 0) → low ≤ d → size_of w.env left * size_of w.env right ≤ 67108865 → Leads low cost (lined d (size_of w.env left * size_of w.env right) (size_of w.env right) w) (line_all regs ls (lined d (size_of w.env left * size_of w.env right) (size_of w.env right) w)) Q → Leads low (cost + 1) w (line_all regs (plain.Product d left right ∷ ls) w) Q
+product_leads low cost regs d l r ls w Q le size x = record { end = x.end; arrives = dim_lines.product low cost regs d l r ls w x.end le size x.arrives; post = x.post }
+
+pub successor_leads : (low cost : ℕ) (regs : ℕ → ℤ) (d : ℕ) (before : Dim) (ls : List LineTree) (w : World) (Q : World → Type 0) → low ≤ d → size_of w.env before + 1 ≤ 67108865 → Leads low cost (lined d (size_of w.env before + 1) 0 w) (line_all regs ls (lined d (size_of w.env before + 1) 0 w)) Q → Leads low (cost + 1) w (line_all regs (plain.Successor d before ∷ ls) w) Q
+successor_leads low cost regs d b ls w Q le size x = record { end = x.end; arrives = dim_lines.successor low cost regs d b ls w x.end le size x.arrives; post = x.post }

@@ -1,15 +1,14 @@
 -- What a level does around any inner block.
-use Rattle.std.proofs.Common.{◌≡◌, ◌≢◌, ℕ, zero, suc, ◌+◌, ◌-◌, ◌*◌, ◌^◌, ◌<◌, ◌≤◌, Bool, true, false, cond, nat_eq, refl, sym, ap, ap₂, ◌∙◌, subst, arith, List, length, pos, ℤ, ◌+ℤ◌, ◌*ℤ◌, mul-le-mul_right}
-use Rattle.std.specs.Prelude.{slice_index_or, slice_set}
+use Rattle.std.proofs.Common.{◌≡◌, ℕ, suc, ◌+◌, ◌-◌, ◌*◌, ◌^◌, ◌<◌, ◌≤◌, Bool, true, false, cond, nat_eq, refl, sym, ap, ap₂, ◌∙◌, subst, arith, length, pos, ℤ, ◌+ℤ◌, ◌*ℤ◌, mul-le-mul_right}
+use Rattle.std.specs.Prelude.{slice_index_or}
 use Rattle.std.specs.Int.{int_wrap}
 use Rattle.std.proofs.lemmas.Bool.Decides.{nat_tests}
 use Rattle.std.proofs.lemmas.Int.{int_wrap_fits}
 use mir.Syntax.{w64}
 use Rattle.us_code.specs.declared.program.Dim.{Dim}
-use Rattle.us_code.specs.declared.program.Dim.TheVariants as dim
 use Rattle.us_code.specs.declared.program.Buf.TheVariants as buf
-use Rattle.us_code.specs.Plain.{TermTree, Number, Reg, Size, Flat, Next, Up, Add, Sub, Mul, Div, Rem, Code, End, Load, For, Span, When}
-use Rattle.us_code.specs.Run.{Env, State, put, exec, size_of, cells, value, tick, set_reg}
+use Rattle.us_code.specs.Plain.{TermTree, Number, Reg, Size, Flat, Next, Up, Add, Sub, Mul, Div, Rem, Code, End}
+use Rattle.us_code.specs.Run.{Env, State, size_of, value, tick, set_reg}
 use Rattle.us_code_laws.specs.Does.{Does}
 use Rattle.us_code_laws.proofs.Sequence.{put_same, put_other}
 use Rattle.us_code_laws.proofs.Does.{do_end, do_weaker, do_load, do_for, do_span, do_when}

@@ -1,15 +1,14 @@
 -- Nests are typed in every context with room.
-use Rattle.std.proofs.Common.{◌≡◌, ◌≢◌, ℕ, ◌+◌, ◌*◌, ◌<◌, ◌≤◌, Bool, true, false, cond, nat_lt, nat_eq, eqb, ◌&&◌, ◌||◌, refl, sym, ap, ap₂, ◌∙◌, subst, arith, List, [], ◌∷◌, Option, Some, None, ◌⊎◌, inl, inr}
+use Rattle.std.proofs.Common.{◌≡◌, ◌≢◌, ℕ, ◌+◌, ◌<◌, ◌≤◌, Bool, true, false, cond, nat_lt, nat_eq, ◌&&◌, refl, sym, ap, ap₂, ◌∙◌, arith, [], ◌∷◌, Option, Some, None, ◌⊎◌, inl, inr}
 use Rattle.std.proofs.lemmas.Bool.Decides.{nat_tests}
 use Rattle.std.proofs.lemmas.Bool.{cases_eq}
 use Rattle.us_code.specs.declared.program.Dim.{Dim}
 use Rattle.us_code.specs.declared.program.Dim.TheVariants as dim
 use Rattle.us_code.specs.declared.program.CellKind.{CellKind}
 use Rattle.us_code.specs.declared.program.CellKind.TheVariants as kind
-use Rattle.us_code.specs.Plain.{TermTree, Number, Reg, Size, Add, Mul, Code, End, Let, Span}
-use Rattle.us_code.specs.Run.{put}
+use Rattle.us_code.specs.Plain.{TermTree, Reg, Add, Mul, Code, End, Let, Span}
 use Rattle.us_code.specs.Typing.{Context, RegKind, is_some, reg_kind, with_reg, fits, kind_of, sees_dim, spans, fine, Typed}
-use Rattle.us_code_laws.specs.Wider.{introduces, Wider, Spares}
+use Rattle.us_code_laws.specs.Wider.{Wider, Spares}
 use Rattle.us_code_laws.proofs.Sequence.{put_same, put_other}
 use Rattle.us_code_laws.proofs.Sound.{both_true}
 use Rattle.us_code_laws.proofs.Typings.{typed_wider}
@@ -17,7 +16,7 @@ use Rattle.us_gen.specs.Nest.{is_origin, under}
 use Rattle.us_gen.specs.declared.nests.Level.{Level}
 use Rattle.us_gen.specs.declared.nests.Level.TheVariants.{Full, Nodes, Crd, Cell, Packed}
 use Rattle.us_gen.specs.Levels.{size_term, in_pack, level, names, position, nest}
-use Rattle.us_gen.specs.Rooms.{FreshFrom, in_level, LevelTyped, in_nest, AllTyped, NestsTyped}
+use Rattle.us_gen.specs.Rooms.{FreshFrom, in_level, LevelTyped, NestsTyped}
 
 pub fresh_more : (g : Context) (n r : ℕ) (v : Bool) (k : CellKind) (m : ℕ) → r < m → n ≤ m → FreshFrom g n → FreshFrom (with_reg g r v k) m
 fresh_more g n r v k m lt le f = record { none = λ x h. put_other g.regs r _ x (omega arith) ∙ f.none x (omega arith) }

@@ -1,14 +1,14 @@
 -- What a nest over a list of levels does around any inner block.
-use Rattle.std.proofs.Common.{◌≡◌, ◌≢◌, ℕ, zero, suc, ◌+◌, ◌-◌, ◌*◌, ◌^◌, ◌<◌, ◌≤◌, Bool, true, false, cond, refl, sym, ap, ap₂, ◌∙◌, subst, arith, List, [], ◌∷◌, length, pos, ℤ, ◌+ℤ◌, ◌*ℤ◌, mul-le-mul_right, ◌⊎◌, inl, inr}
+use Rattle.std.proofs.Common.{◌≡◌, ℕ, ◌+◌, ◌*◌, ◌^◌, ◌<◌, ◌≤◌, Bool, true, false, refl, sym, ap, ◌∙◌, arith, List, [], ◌∷◌, length, pos, ℤ, ◌+ℤ◌, ◌*ℤ◌, mul-le-mul_right, ◌⊎◌, inl, inr}
 use Rattle.std.specs.Int.{int_wrap}
 use Rattle.std.proofs.lemmas.Bool.{cases_lt}
 use mir.Syntax.{w64}
 use Rattle.us_code.specs.declared.program.Dim.{Dim}
 use Rattle.us_code.specs.declared.program.Dim.TheVariants as dim
-use Rattle.us_code.specs.Plain.{TermTree, Number, Reg, Size, Add, Mul, Code}
+use Rattle.us_code.specs.Plain.{TermTree, Code}
 use Rattle.us_code.specs.Run.{Env, State, size_of, value}
 use Rattle.us_code.specs.Runs.{whole}
-use Rattle.us_gen.specs.Nest.{under, Same, Visits, Below, Starts, InFull, InNodes, InCell, At}
+use Rattle.us_gen.specs.Nest.{Same, Visits, Below, At}
 use Rattle.us_gen.specs.declared.nests.Level.{Level}
 use Rattle.us_gen.specs.declared.nests.Level.TheVariants.{Full, Nodes, Crd, Cell, Packed}
 use Rattle.us_gen.specs.Levels.{size_term, in_pack, level, names, position, cell, first, inside, work, Fits, Inside, nest, end_of, position_in, first_in, all_inside, work_in, AllFit, AllInside, Running, stays, Held, NestsVisit, NestsPlace}

@@ -1,5 +1,5 @@
 -- Columns that a running counter fills.
-use Rattle.std.specs.Prelude.{◌≡◌, ◌≢◌, ℕ, ◌+◌, ◌^◌, ◌<◌, Bool, true, false, not, ◌&&◌, ◌||◌, nat_eq, List, [], ◌∷◌, ◌++◌, length, take, slice_set, ℤ, pos, None, Some}
+use Rattle.std.specs.Prelude.{◌≡◌, ◌≢◌, ℕ, ◌+◌, ◌^◌, ◌<◌, Bool, true, false, not, ◌&&◌, ◌||◌, nat_eq, List, [], ◌∷◌, ◌++◌, length, take, slice_set, ℤ, pos, Some}
 use Rattle.us_code.specs.declared.program.Dim.{Dim}
 use Rattle.us_code.specs.declared.program.Buf.TheVariants as buf
 use Rattle.us_code.specs.declared.program.CellKind.TheVariants as kind
@@ -12,6 +12,10 @@ use Rattle.us_gen.specs.Rooms.{FreshFrom}
 pub record Column : Type 0 where
   pub buf : ℕ
   pub value : TermTree
+
+-- the row, the column and the value of an entry, each in its own
+abbrev pub entry : ℕ → ℕ → ℕ → TermTree → TermTree → TermTree → List Column
+entry i j v row col value = record { buf = i; value = row } ∷ record { buf = j; value = col } ∷ record { buf = v; value = value } ∷ []
 
 -- sets the cell in register n of each column
 abbrev pub sets : ℕ → List Column → Code → Code

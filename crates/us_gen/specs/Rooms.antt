@@ -1,6 +1,5 @@
 -- Nests that are typed in every context with room.
 use Rattle.std.specs.Prelude.{◌≡◌, ℕ, ◌+◌, ◌≤◌, true, false, nat_lt, List, [], ◌∷◌, None}
-use Rattle.us_code.specs.declared.program.Dim.{Dim}
 use Rattle.us_code.specs.declared.program.Dim.TheVariants as dim
 use Rattle.us_code.specs.declared.program.CellKind.TheVariants as kind
 use Rattle.us_code.specs.Plain.{TermTree, Code}

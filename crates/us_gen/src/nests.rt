@@ -1,9 +1,9 @@
 //! Nests of levels, built from the inside out.
 
-ghost use Rattle.std.specs.Prelude.{◌≡◌, ◌+◌, ◌<◌, ◌^◌, IfOk};
+ghost use Rattle.std.specs.Prelude.{◌≡◌, ◌+◌, ◌*◌, ◌<◌, ◌≤◌, ◌^◌, length, IfOk};
 ghost use Rattle.us_code.specs.Plain.{term_tree, tree_of};
 ghost use Rattle.us_gen.specs.Nest as nested;
-ghost use Rattle.us_gen.specs.Levels as levels;
+ghost use Rattle.us_gen.specs.Levels as nests;
 
 use std::alloc::{AllocError, Global};
 use us_code::{Block, Buf, Dim, Term, add, for_below, load, mul, span, when};
@@ -26,7 +26,8 @@ pub enum Level {
 impl Level {
     /// How many registers the level names.
     pub fn names(&self) -> u32
-        ensures { result ≡ levels.names self.now }
+        ensures count { result ≡ nests.names self.now }
+        ensures few { result ≤ 7 }
     {
         match self {
             Level::Full { size: _ } => 1,
@@ -48,7 +49,7 @@ impl Level {
     /// The term of the position inside, under this one. Registers from `next` on are the level's own.
     pub fn position(&self, alloc: Global, position: &Term, next: u32) -> Result<Term, AllocError>
         requires { next + 7 < 2 ^ 32 }
-        ensures { IfOk result (λ t. term_tree t ≡ levels.position self.now (term_tree position.now) next) }
+        ensures { IfOk result (λ t. term_tree t ≡ nests.position self.now (term_tree position.now) next) }
     {
         match self {
             Level::Full { size } => under(alloc, position, *size, next),
@@ -76,7 +77,7 @@ impl Level {
         inner: Block,
     ) -> Result<Block, AllocError>
         requires { next + 7 < 2 ^ 32 }
-        ensures { IfOk result (λ b. tree_of b ≡ levels.level self.now (term_tree position.now) next (tree_of inner)) }
+        ensures { IfOk result (λ b. tree_of b ≡ nests.level self.now (term_tree position.now) next (tree_of inner)) }
     {
         match self {
             Level::Full { size } => Block::of(alloc, for_below(next, *size, inner)),
@@ -119,7 +120,7 @@ fn is_origin(term: &Term) -> bool
 
 /// A dim as a term.
 fn size_term(size: Dim) -> Term
-    ensures { term_tree result ≡ levels.size_term size }
+    ensures { term_tree result ≡ nests.size_term size }
 {
     match size {
         Dim::Number(n) => Term::Number(n),
@@ -130,7 +131,7 @@ fn size_term(size: Dim) -> Term
 
 /// The position of the coordinate in register `reg` under a position, at a level of this size.
 fn under(alloc: Global, position: &Term, size: Dim, reg: u32) -> Result<Term, AllocError>
-    ensures { IfOk result (λ t. term_tree t ≡ nested.under (term_tree position.now) (levels.size_term size) reg) }
+    ensures { IfOk result (λ t. term_tree t ≡ nested.under (term_tree position.now) (nests.size_term size) reg) }
 {
     if is_origin(position) {
         Ok(Term::Reg(reg))
@@ -142,7 +143,7 @@ fn under(alloc: Global, position: &Term, size: Dim, reg: u32) -> Result<Term, Al
 
 /// The place of column `digit` at a position of a pack.
 fn in_pack(alloc: Global, position: &Term, width: u64, digit: u64) -> Result<Term, AllocError>
-    ensures { IfOk result (λ t. term_tree t ≡ levels.in_pack (term_tree position.now) width digit) }
+    ensures { IfOk result (λ t. term_tree t ≡ nests.in_pack (term_tree position.now) width digit) }
 {
     let start = mul(alloc, position.copy(alloc)?, Term::Number(width))?;
     add(alloc, start, Term::Number(digit))
@@ -188,7 +189,7 @@ fn node_turns(
     inner: Block,
 ) -> Result<Block, AllocError>
     requires { next + 7 < 2 ^ 32 }
-    ensures { IfOk result (λ b. tree_of b ≡ levels.node_turns more nodes next (tree_of inner)) }
+    ensures { IfOk result (λ b. tree_of b ≡ nests.node_turns more nodes next (tree_of inner)) }
 {
     let first = Term::Reg(next + 4);
     let end = Term::Reg(next + 5);
@@ -219,4 +220,25 @@ fn node_level(
         alloc,
         when(position.copy(alloc)?, Dim::Len(pos), next, start),
     )
+}
+
+/// The loops of levels around a block, the outermost level first. Registers from `next` on are the levels' own.
+pub fn nest(
+    alloc: Global,
+    levels: &[Level],
+    position: &Term,
+    next: u32,
+    inner: Block,
+) -> Result<Block, AllocError>
+    requires { next + 7 * length levels.now + 7 < 2 ^ 32 }
+    ensures { IfOk result (λ b. tree_of b ≡ nests.nest levels.now (term_tree position.now) next (tree_of inner)) }
+{
+    match levels {
+        [] => Ok(inner),
+        [level, rest @ ..] => {
+            let place = level.position(alloc, position, next)?;
+            let block = nest(alloc, rest, &place, next + level.names(), inner)?;
+            level.around(alloc, position, next, block)
+        }
+    }
 }
