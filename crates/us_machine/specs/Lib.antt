@@ -1,0 +1,9 @@
+pub mod Answer
+pub mod Growing
+pub mod Lines
+pub mod Phases
+pub mod Sorting
+pub mod Starting
+pub mod Steps
+pub mod Tables
+pub mod Walks

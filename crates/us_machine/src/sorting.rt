@@ -1,0 +1,117 @@
+//! The statement that orders.
+ghost use Rattle.std.specs.Prelude.{◌≡◌, ◌+◌, List, ◌<◌, ◌≤◌, ℕ, ℤ, pos, [], map, length, get_or, slice_set, false, true, IfOk};
+ghost use Rattle.std.specs.List.{range_with_len};
+ghost use Rattle.std.specs.Ordering.{is_lt};
+ghost use Rattle.us_code.specs.Plain as plain;
+ghost use Rattle.us_code.specs.Run.{exec};
+ghost use Rattle.us_code.specs.Sort as sort;
+ghost use Rattle.us_code.specs.Typing.{Context};
+ghost use Rattle.us_raw.specs.declared.width.Width.TheVariants.{W8};
+ghost use Rattle.us_raw.specs.Widths.{HoldsAll};
+ghost use Rattle.us_machine.specs.Sorting.{lists_of, AreLong, CanOrder};
+ghost use Rattle.us_machine.specs.Steps.{Shows};
+ghost use Rattle.us_machine.specs.Tables.{env_of};
+ghost use Rattle.us_machine.specs.Walks.{Ready, Leads, state_of};
+
+use crate::stop::RunStop;
+use crate::tables::Tables;
+use std::alloc::{AllocError, Global};
+use std::cmp::Ordering;
+use us_code::Buf;
+use us_raw::Region;
+
+/// The cell of a list at a place, or 0 behind its end.
+fn cell(region: &Region, seg: usize, place: u32, len: u64) -> i64
+    requires { length (get_or region.now.lists seg []) ≡ len }
+    ensures { result ≡ get_or (get_or region.now.lists seg []) place (pos 0) }
+{
+    let place = u64::from(place);
+    if place < len {
+        region.get(seg, place)
+    } else {
+        0
+    }
+}
+
+/// Which of two places comes first: by the first key that tells them apart, else by number.
+fn compare(keys: &[Buf], x: u32, y: u32, len: u64, tables: &Tables, region: &Region) -> Ordering
+    requires { AreLong tables.now region.now.lists len keys.now }
+    ensures { is_lt result ≡ sort.before (lists_of tables.now region.now.lists keys.now) x y }
+{
+    for key in keys {
+        let seg = tables.segment(*key);
+        let left = cell(region, seg, x, len);
+        let right = cell(region, seg, y, len);
+        if left < right {
+            return Ordering::Less;
+        }
+        if right < left {
+            return Ordering::Greater;
+        }
+    }
+    x.cmp(&y)
+}
+
+/// The places below `len`.
+fn places_below(alloc: Global, len: u64) -> Result<Vec<u32>, AllocError>
+    requires { len ≤ 67108865 }
+    ensures { IfOk result (λ v. v.items ≡ range_with_len 0 len) }
+{
+    let mut places = Vec::new(alloc);
+    for x in 0..len {
+        places.push(x as u32)?;
+    }
+    Ok(places)
+}
+
+/// The places below `len` in the order of the keys.
+fn ordered(
+    alloc: Global,
+    keys: &[Buf],
+    len: u64,
+    tables: &Tables,
+    region: &Region,
+) -> Result<Vec<u32>, AllocError>
+    requires long { AreLong tables.now region.now.lists len keys.now }
+    requires small { len ≤ 67108865 }
+    ensures { IfOk result (λ v. v.items ≡ sort.ordered (lists_of tables.now region.now.lists keys.now) len) }
+{
+    let mut places = places_below(alloc, len)?;
+    places.sort_unstable_by(|x, y| compare(keys, *x, *y, len, tables, region));
+    Ok(places)
+}
+
+/// A list of the region gets the numbers.
+fn write_places(region: &mut Region, seg: usize, places: &[u32])
+    requires there { seg < length region.old.lists }
+    requires long { length (get_or region.old.lists seg []) ≡ length places.now }
+    requires fit { HoldsAll (get_or region.old.widths seg W8) (map pos places.now) }
+    ensures lists { region.new.lists ≡ slice_set region.old.lists seg (map pos places.now) }
+    ensures widths { region.new.widths ≡ region.old.widths }
+{
+    for x in 0..places.len() {
+        region.set(seg, x as u64, i64::from(places[x]));
+    }
+}
+
+/// A buffer becomes the list of its places in ascending order of the keys there, then of the place. The statement's own
+/// step is counted already.
+pub fn order(
+    buf: Buf,
+    keys: &[Buf],
+    tables: &Tables,
+    alloc: Global,
+    region: &mut Region,
+    steps: &mut u64,
+) -> Result<(), RunStop>
+    requires { CanOrder tables.now region.old buf keys.now }
+    ensures { (sources : List (List ℤ)) (regs : ℕ → ℤ) (g : Context) (n : ℕ) → Ready tables.now sources region.old regs g (plain.Order buf keys.now plain.End) → Shows tables.now.budget steps.old (n + 1)
+        → Leads tables.now sources result (exec (env_of tables.now sources) (plain.Order buf keys.now plain.End) (state_of tables.now region.old regs n)) region.new regs steps.new }
+{
+    let seg = tables.segment(buf);
+    let len = tables.plan[seg].len;
+    tables.budget.charge(steps, len * keys.len() as u64)?;
+    let places = ordered(alloc, keys, len, tables, region)?;
+    write_places(region, seg, places.as_slice());
+    Ok(())
+}
