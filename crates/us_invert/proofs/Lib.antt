@@ -7,3 +7,4 @@ pub mod Ending
 pub mod Walking
 pub mod PlanSteps
 pub mod PlanRanges
+pub mod Numbered

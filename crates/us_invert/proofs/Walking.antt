@@ -105,7 +105,7 @@ abbrev pub kept_by : List Tree → List ℤ → ℕ → Values
 kept_by ts zs zero = []
 kept_by ts zs (suc n) = (tree_at ts n, cell zs n) ∷ kept_by ts zs n
 
-kept-more : (ts : List Tree) (zs : List ℤ) (z : ℤ) (n : ℕ) → n ≤ length zs → kept_by ts (zs ++ z ∷ []) n ≡ kept_by ts zs n
+pub kept-more : (ts : List Tree) (zs : List ℤ) (z : ℤ) (n : ℕ) → n ≤ length zs → kept_by ts (zs ++ z ∷ []) n ≡ kept_by ts zs n
 kept-more ts zs z zero l = refl
 kept-more ts zs z (suc n) l =
     ap₂ (λ (w : ℤ) (vs : Values). (tree_at ts n, w) ∷ vs) (get_or_append_left zs (z ∷ []) (pos 0) n (omega (arith, l))) (kept-more ts zs z n (omega (arith, l)))
@@ -156,7 +156,7 @@ module _ (ts : List Tree) (zs : List ℤ) (apart : (i j : ℕ) → i < length ts
   -- ---- one step
 
   module _ (s : Shape) (p : Part) (f : Found) (n : ℕ) (l : n ≤ length ts) where
-    step-gives : (x : PlanStep) (lo : ℤ) → IsEarlier n x → ((k : ℕ) → x ≡ Level k → (level_range s f.extents p (get_or p.levels k RowIndex)).lo ≡ lo) → give_value s p f (kept_by ts zs n) (give_at ts x) ≡ Some (step_value zs lo f x)
+    pub step-gives : (x : PlanStep) (lo : ℤ) → IsEarlier n x → ((k : ℕ) → x ≡ Level k → (level_range s f.extents p (get_or p.levels k RowIndex)).lo ≡ lo) → give_value s p f (kept_by ts zs n) (give_at ts x) ≡ Some (step_value zs lo f x)
     step-gives (Const c) lo e h = refl
     step-gives (Level k) lo e h = ap (λ (z : ℤ). Some (pos (get_or f.coords k 0) +ℤ z)) (h k refl)
     step-gives (Add a b) lo e h = rw (value-at n a l e.0, value-at n b l e.1) refl

@@ -1,16 +1,17 @@
 -- Recovery by a plan.
-use Rattle.std.specs.Prelude.{ℕ, ◌<◌, ◌+◌, ◌*◌, ◌^◌, ℤ, pos, ◌+ℤ◌, ◌-ℤ◌, ◌*ℤ◌, ◌≤ℤ◌, ◌<ℤ◌, List, map, length, slice_index_or, ◌≡◌, Option, Some, None, FitsSigned, All}
+use Rattle.std.specs.Prelude.{ℕ, ◌<◌, ◌+◌, ◌*◌, ◌^◌, ℤ, pos, ◌+ℤ◌, ◌-ℤ◌, ◌*ℤ◌, ◌≤ℤ◌, ◌<ℤ◌, List, [], ◌∷◌, ◌++◌, map, length, slice_index_or, ◌≡◌, Option, Some, None, FitsSigned, All}
 use Rattle.std.proofs.Common.{w64}
 use Rattle.std.specs.Int.{int_div_euclid, int_rem_euclid}
 use Rattle.us_expr.specs.declared.ranges.Range.{Range}
 use Rattle.us_expr.specs.Tree.{Tree, RowIndex, ColIndex, Number, Variable, Sum, Difference, Quotient, Remainder}
 use Rattle.us_expr.specs.Range.{range}
-use Rattle.us_format.specs.Lists.{nth, cell, nat_of}
+use Rattle.us_format.specs.Lists.{then_do, nth, cell, nat_of}
 use Rattle.us_format.specs.Matrix.{Shape}
 use Rattle.us_format.specs.Declaration.{Part}
 use Rattle.us_format.specs.Coordinates.{level_range, span}
-use Rattle.us_format.specs.Known.{Give, Itself, OfLevel, Plus, Minus, Joined, Over, Rest as RestGive, OrderAt, RowsAt, Steps}
-use Rattle.us_format.specs.Recover.{Found, plan_of}
+use Rattle.us_format.specs.Known.{Give, Itself, OfLevel, Plus, Minus, Joined, Over, Rest as RestGive, OrderAt, RowsAt, Steps, known_of}
+use Rattle.us_format.specs.Recover.{Found, checked, recovered, plan_of}
+use Rattle.us_invert.specs.Plan.{give_at, IsStepOf}
 use Rattle.us_invert.specs.declared.steps.PlanStep.{PlanStep}
 use Rattle.us_invert.specs.declared.steps.PlanStep.TheVariants.{Const, Level, Add, Sub, Join, Div, Rem, Order, Rows}
 use Rattle.us_invert.specs.declared.recovering.Cell.{Cell}
@@ -115,3 +116,27 @@ IsIndexValue (Sum a b) z = Unit {0}
 IsIndexValue (Difference a b) z = Unit {0}
 IsIndexValue (Quotient a k) z = Unit {0}
 IsIndexValue (Remainder a k) z = Unit {0}
+
+-- ---- the numbered steps, one after the other
+
+-- a constant and a coordinate need no test; any other value has to lie in its range
+abbrev pub tested : Range → PlanStep → ℤ → Option ℤ
+tested r x z = checked r (give_at [] x) z
+
+-- the values of the steps behind those that have the values `kept`, up to the first that isn't in the range of its expression
+abbrev pub walked : Shape → Part → Found → List Tree → List PlanStep → List ℤ → Option (List ℤ)
+walked s p f [] steps kept = Some kept
+walked s p f (t ∷ ts) [] kept = Some kept
+walked s p f (t ∷ ts) (x ∷ steps) kept =
+    let r = level_range s f.extents p t in
+    then_do (tested r x (step_value kept r.lo f x)) (λ z. walked s p f ts steps (kept ++ z ∷ []))
+
+-- the indices of an entry by the numbered steps: the values of the two steps that give them
+abbrev pub indices_by : Shape → Part → Found → List Tree → List PlanStep → ℕ → ℕ → Option (ℤ × ℤ)
+indices_by s p f ts steps rows cols = then_do (walked s p f ts steps []) (λ zs. Some (cell zs rows, cell zs cols))
+
+-- walking the steps of a part's plan recovers the indices
+abbrev pub StepsRecover : Steps → List PlanStep → Type 0
+StepsRecover plan steps =
+    (s : Shape) (p : Part) (f : Found) (rows cols : ℕ) → plan ≡ plan_of p.levels p.queries → IsStepOf plan RowIndex rows → IsStepOf plan ColIndex cols
+    → recovered s p f ≡ indices_by s p f (known_of plan) steps rows cols

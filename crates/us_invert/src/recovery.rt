@@ -6,7 +6,7 @@ ghost use Rattle.us_format.specs.Matrix.{Shape};
 ghost use Rattle.us_format.specs.Declaration.{Part};
 ghost use Rattle.us_format.specs.Recover.{recovered};
 ghost use Rattle.us_invert.specs.Plan.{steps_of, IsPlan, item_at, HasSteps, IsStepOf};
-ghost use Rattle.us_invert.specs.Recovery.{cell_of, found_of, HasCoordinate, IsRecoveryOf};
+ghost use Rattle.us_invert.specs.Recovery.{cell_of, found_of, HasCoordinate, IsRecoveryOf, StepsRecover};
 
 use crate::recovering::{Cell, Tables, recover_steps};
 use crate::steps::PlanStep;
@@ -73,8 +73,10 @@ impl RecoveryPlan {
     }
 
     /// What gives each step its value, with the numbers of earlier steps as operands.
+    /// What generated code does with them, it may follow: the values of these steps, one after the other, give both indices.
     pub fn steps(&self) -> &[PlanStep]
-        ensures { HasSteps self.now result.now }
+        ensures numbered { HasSteps self.now result.now }
+        ensures recovers { StepsRecover self.now result.now }
     {
         self.steps.as_slice()
     }

@@ -1,0 +1,11 @@
+pub mod Counts
+pub mod Starts
+pub mod Ways
+pub mod Recovery
+pub mod Lawful
+pub mod Prefixes
+pub mod Tight
+pub mod Filled
+pub mod Split
+pub mod Small
+pub mod Parts
