@@ -10,10 +10,12 @@ pub mod LevelCells
 pub mod Passing
 pub mod Readiness
 pub mod Spans
+pub mod Extents
+pub mod Named
 pub mod Offsets
 pub mod Sorting
 pub mod Walking
-pub mod PlainParts
+pub mod Parts
 pub mod Sorted
 pub mod Whole
 pub mod Keeping

@@ -1,5 +1,7 @@
 -- What is left of a walk down the levels.
 use Rattle.std.specs.Prelude.{ℕ, ◌+◌, ◌-◌, ◌*◌, ◌<◌, ◌≤◌, ◌^◌, List, [], ◌∷◌, length, drop, ◌≡◌, Bool, true, false, ◌&&◌, nat_lt, All}
+use Rattle.us_matrix.specs.declared.matrix.Triple.{Triple}
+use Rattle.us_matrix.specs.declared.shape.Shape as code
 use Rattle.us_format.specs.declared.Kind.{Kind}
 use Rattle.us_format.specs.declared.Kind.TheVariants.{Full}
 use Rattle.us_format.specs.Buffers.{buffers_at, level_buffers, piece_buffers}
@@ -8,6 +10,7 @@ use Rattle.us_format.specs.Kinds as plain
 use Rattle.us_format.specs.Matrix.{Entry, Shape}
 use Rattle.us_format.specs.Packs.{Buffer}
 use Rattle.us_format.specs.Positions.{Row, count_below, down}
+use Rattle.us_format.specs.Program.{plain_entries, plain_shape}
 use Rattle.us_format.specs.Queries.{extents_of}
 use Rattle.us_format.specs.Reading.{limit}
 use Rattle.us_build.specs.declared.items.Item.{Item}
@@ -50,6 +53,10 @@ pub record IsStartOf (s : Shape) (p : Part) (m : List Entry) (w : Way) : Type 0 
   pub levels : w.levels ≡ plain.levels_of s (extents_of m s p) p
   pub positions : w.positions ≡ 1
   pub buffers : buffers_left w ≡ piece_buffers s p m
+
+-- the same for a matrix of the program
+abbrev pub IsStartOn : code.Shape → Part → List Triple → Way → Type 0
+IsStartOn shape p entries w = IsStartOf (plain_shape shape) p (plain_entries entries) w
 
 -- ---- as the program keeps it
 

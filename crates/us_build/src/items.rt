@@ -1,11 +1,12 @@
 //! Entries on their way down the levels.
-ghost use Rattle.std.specs.Prelude.{◌≡◌, ◌<◌, ◌≤◌, ◌^◌, pos, length, map, All, IfOk};
+ghost use Rattle.std.specs.Prelude.{◌≡◌, ◌<◌, ◌≤◌, ◌^◌, ℤ, List, length, map, All, IfOk};
 ghost use Rattle.std.specs.List.Sorted.{IsPermutation, IsSortedBy};
 ghost use Rattle.std.specs.Ordering.{is_lt};
 ghost use Rattle.us_expr.specs.Tree.{tree};
-ghost use Rattle.us_expr.specs.Value.{IsPoint};
+ghost use Rattle.us_expr.specs.Value.{IsPoint, IsValid};
 ghost use Rattle.us_format.specs.Lists.{lower};
-ghost use Rattle.us_build.specs.Levels.{IsSimple, LiesInLevels, item_over, six};
+ghost use Rattle.us_format.specs.Matrix.{Entry};
+ghost use Rattle.us_build.specs.Levels.{AreValues, HasCoordinates, HaveCoordinates, LiesInLevels, item_over, items_over, six};
 
 use crate::levels::{Level, distance};
 use arrayvec::ArrayVec;
@@ -13,6 +14,7 @@ use std::alloc::{AllocError, Global};
 use std::cmp::Ordering;
 use us_expr::{Expr, Point, eval};
 use us_matrix::Triple;
+use us_variables::Variables;
 
 /// An entry on its way down: its position now and one level above, its coordinates at all levels, and its value.
 ///
@@ -30,11 +32,10 @@ fn coordinates_of(exprs: &[Expr], levels: &[Level], point: &Point) -> [u64; 6]
     requires count { length exprs.now ≤ 6 }
     requires levels { length levels.now ≡ length exprs.now }
     requires sizes { All (λ l. l.size < 2 ^ 38) levels.now }
-    requires simple { All (λ e. IsSimple (tree e)) exprs.now }
-    requires plain { length point.now.vars.items ≡ 0 }
+    requires valid { All (λ e. IsValid point.now.vars.items (tree e)) exprs.now }
     requires point { IsPoint point.now.i point.now.j point.now.vars.items }
-    requires lies { LiesInLevels point.now.i point.now.j (map tree exprs.now) levels.now }
-    ensures { result ≡ six point.now.i point.now.j (map tree exprs.now) levels.now }
+    requires lies { LiesInLevels point.now.i point.now.j point.now.vars.items (map tree exprs.now) levels.now }
+    ensures { result ≡ six point.now.i point.now.j point.now.vars.items (map tree exprs.now) levels.now }
 {
     let mut coordinates = [0u64; 6];
     let first = 6 - exprs.len();
@@ -44,37 +45,45 @@ fn coordinates_of(exprs: &[Expr], levels: &[Level], point: &Point) -> [u64; 6]
     coordinates
 }
 
+/// The item of an entry above the first level, where the variables have these values.
+fn item_of(exprs: &[Expr], levels: &[Level], entry: &Triple, vars: ArrayVec<i64, 32>) -> Item
+    requires count { length exprs.now ≤ 6 }
+    requires levels { length levels.now ≡ length exprs.now }
+    requires sizes { All (λ l. l.size < 2 ^ 38) levels.now }
+    requires placed { HasCoordinates exprs.now levels.now vars.items entry.now }
+    ensures { result ≡ item_over (map tree exprs.now) levels.now vars.items entry.now }
+{
+    let point = Point {
+        i: i64::from(entry.i),
+        j: i64::from(entry.j),
+        vars,
+    };
+    Item {
+        above: 0,
+        at: 0,
+        coordinates: coordinates_of(exprs, levels, &point),
+        value: entry.v,
+    }
+}
+
 /// The items of these entries above the first level, in the order of the entries.
 fn items_of(
     alloc: Global,
     exprs: &[Expr],
     levels: &[Level],
+    variables: &Variables,
     entries: &[Triple],
 ) -> Result<Vec<Item>, AllocError>
     requires count { length exprs.now ≤ 6 }
     requires levels { length levels.now ≡ length exprs.now }
     requires sizes { All (λ l. l.size < 2 ^ 38) levels.now }
-    requires simple { All (λ e. IsSimple (tree e)) exprs.now }
-    requires rows { All (λ t. t.i < 2 ^ 31) entries.now }
-    requires cols { All (λ t. t.j < 2 ^ 31) entries.now }
-    requires lies { All (λ t. LiesInLevels (pos t.i) (pos t.j) (map tree exprs.now) levels.now) entries.now }
-    ensures { IfOk result (λ items. items.items ≡ map (item_over (map tree exprs.now) levels.now) entries.now) }
+    requires names { variables.now.names ≤ 32 }
+    requires placed { HaveCoordinates exprs.now levels.now variables.now entries.now }
+    ensures { IfOk result (λ items. (f : Entry → List ℤ) → AreValues f variables.now entries.now → items.items ≡ items_over (map tree exprs.now) levels.now f entries.now) }
 {
-    let mut point = Point {
-        i: 0,
-        j: 0,
-        vars: ArrayVec::new(),
-    };
     let mut items = Vec::new(alloc);
-    for t in entries {
-        point.i = i64::from(t.i);
-        point.j = i64::from(t.j);
-        items.push(Item {
-            above: 0,
-            at: 0,
-            coordinates: coordinates_of(exprs, levels, &point),
-            value: t.v,
-        })?;
+    for (k, entry) in entries.iter().enumerate() {
+        items.push(item_of(exprs, levels, entry, variables.values(k)))?;
     }
     Ok(items)
 }
@@ -99,19 +108,18 @@ pub(crate) fn sorted_items(
     alloc: Global,
     exprs: &[Expr],
     levels: &[Level],
+    variables: &Variables,
     entries: &[Triple],
 ) -> Result<Vec<Item>, AllocError>
     requires count { length exprs.now ≤ 6 }
     requires levels { length levels.now ≡ length exprs.now }
     requires sizes { All (λ l. l.size < 2 ^ 38) levels.now }
-    requires simple { All (λ e. IsSimple (tree e)) exprs.now }
-    requires rows { All (λ t. t.i < 2 ^ 31) entries.now }
-    requires cols { All (λ t. t.j < 2 ^ 31) entries.now }
-    requires lies { All (λ t. LiesInLevels (pos t.i) (pos t.j) (map tree exprs.now) levels.now) entries.now }
-    ensures permutation { IfOk result (λ items. IsPermutation (map (item_over (map tree exprs.now) levels.now) entries.now) items.items) }
+    requires names { variables.now.names ≤ 32 }
+    requires placed { HaveCoordinates exprs.now levels.now variables.now entries.now }
+    ensures permutation { IfOk result (λ xs. (f : Entry → List ℤ) → AreValues f variables.now entries.now → IsPermutation (items_over (map tree exprs.now) levels.now f entries.now) xs.items) }
     ensures sorted { IfOk result (λ items. IsSortedBy (λ x y. lower x.coordinates y.coordinates) items.items) }
 {
-    let mut items = items_of(alloc, exprs, levels, entries)?;
+    let mut items = items_of(alloc, exprs, levels, variables, entries)?;
     sort(&mut items);
     Ok(items)
 }

@@ -7,6 +7,7 @@ mod items;
 mod levels;
 mod passes;
 mod pieces;
+mod ranges;
 mod rows;
 mod steps;
 mod walk;

@@ -2,11 +2,10 @@
 ghost use Rattle.std.specs.Prelude.{◌≡◌, ◌<◌, ◌++◌, [], map, length, true, false, OnOk, IfOk};
 ghost use Rattle.us_format.specs.Declaration.{Part};
 ghost use Rattle.us_format.specs.Packs.{written};
-ghost use Rattle.us_format.specs.Program.{plain_entries, plain_shape};
 ghost use Rattle.us_build.specs.Cells.{BeginsWith};
-ghost use Rattle.us_build.specs.Pieces.{IsBuildable, IsPlain};
+ghost use Rattle.us_build.specs.Pieces.{IsBuildable, IsPartOf};
 ghost use Rattle.us_format.specs.Buffers.{val_buffer};
-ghost use Rattle.us_build.specs.Ways.{IsStartOf, Way, first_buffers, is_first_long, way_below};
+ghost use Rattle.us_build.specs.Ways.{IsStartOn, Way, first_buffers, is_first_long, way_below};
 
 use crate::cells::{push_level, values};
 use crate::items::Item;
@@ -16,9 +15,10 @@ use crate::rows::Rows;
 use crate::steps::go_down;
 use std::alloc::{AllocError, Global};
 use std::marker::Model;
-use us_expr::Expr;
+use us_expr::{Expr, Query};
 use us_format::Kind;
 use us_matrix::{Buffers, Shape, Triple};
+use us_variables::Variables;
 
 /// Entries on their way down the levels of a part. Contracts see the levels that are left, how many positions there are
 /// before them, and the entries as rows there.
@@ -41,19 +41,23 @@ impl Model for Walk {
 }
 
 impl Walk {
-    /// The entries of a lawful part without queries, which has these level expressions and kinds, above its first level.
-    /// Fails only where memory is wanting.
+    /// The entries of a lawful part, which has these level expressions, kinds and queries, above its first level. The
+    /// variables are those of the queries on the entries. Fails only where memory is wanting.
     pub fn start(
         alloc: Global,
         levels: &[Expr],
         kinds: &[Kind],
+        queries: &[Query],
+        variables: &Variables,
         shape: Shape,
         entries: &[Triple],
     ) -> Result<Walk, AllocError>
-        requires { IsBuildable levels.now kinds.now shape entries.now }
-        ensures { IfOk result (λ w. (p : Part) → IsPlain p levels.now kinds.now → IsStartOf (plain_shape shape) p (plain_entries entries.now) w) }
+        requires { IsBuildable levels.now kinds.now queries.now variables.now shape entries.now }
+        ensures { IfOk result (λ w. (p : Part) → IsPartOf p levels.now kinds.now queries.now variables.now → IsStartOn shape p entries.now w) }
     {
-        let Rows { levels, items } = Rows::new(alloc, levels, kinds, shape, entries)?;
+        let Rows { levels, items } = Rows::new(
+            alloc, levels, kinds, queries, variables, shape, entries,
+        )?;
         Ok(Walk {
             items,
             levels,

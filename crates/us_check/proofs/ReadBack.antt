@@ -18,7 +18,6 @@ use Rattle.us_format.specs.Program.{plain_entry}
 use Rattle.us_format.proofs.Order.{Mem, Mem-map, Mem-of_map}
 use Rattle.us_format.proofs.Members.{contains-Mem, Mem-contains, Mem-all, Mem-either, item-Mem}
 use Rattle.us_format.proofs.Lawful.{row-major}
-use Rattle.us_decl.specs.Declares.{DeclaredBody, Undivided, Divided, Declared}
 use Rattle.us_judge.specs.Views.{declaration_of}
 use Rattle.us_climb.specs.declared.found.Found.{Found}
 use Rattle.us_climb.specs.declared.found.ReadEntries.{ReadEntries}
@@ -211,11 +210,3 @@ module _ (s : Shape) (d : Declaration) (bufs : List (List ℤ)) (r : ReadEntries
 
   pub unread-told : (at : code.Position) (fault : Broken) → r.failed ≡ Some at → IsFirstRepeat es None → fault ≡ Climb (at.part + 1) at.x → TellsFault (compared s d bufs (collected s d bufs)) fault
   unread-told at fault f h q = climb-told at fault (fails-unread at f h) q
-
--- a declaration has one part, or two
-pub few-parts : (x : Declared) → length (declaration_of x).parts ≤ 2
-few-parts x = go x.body
-  where
-    go : (b : DeclaredBody) → length (declaration_of (record { name = x.name; body = b })).parts ≤ 2
-    go (Undivided p) = omega arith
-    go (Divided h p q) = omega arith

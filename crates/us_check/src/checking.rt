@@ -1,5 +1,5 @@
 //! Checking buffers.
-ghost use Rattle.std.specs.Prelude.{◌≡◌, ◌+◌, ◌<◌, ◌≤◌, Ok, true, IfOk, OnOk, IfErr};
+ghost use Rattle.std.specs.Prelude.{◌≡◌, ◌+◌, ◌<◌, ◌≤◌, ◌^◌, Ok, true, IfOk, OnOk, IfErr};
 ghost use Rattle.us_matrix.specs.Map.{IsSide};
 ghost use Rattle.us_format.specs.Meaning.{collected};
 ghost use Rattle.us_format.specs.Program.{plain_shape, shape_in, entries_in};
@@ -38,7 +38,7 @@ fn test_lengths(format: &Format, shape: Shape, buffers: &Buffers) -> Result<(), 
 
 // The fault of a position, whose part is named from 1 on.
 fn climb_fault(position: Position) -> Broken
-    requires { position.part < 2 }
+    requires { position.part + 1 < 2 ^ 64 }
     ensures { result ≡ Climb (position.part + 1) position.x }
 {
     Broken::Climb {
@@ -60,6 +60,8 @@ fn read_matrix(
     ensures read { IfOk result (λ m. collected (plain_shape shape) (declaration_of format.now) buffers.now ≡ Ok (entries_in m)) }
     ensures fault { IfErr result (λ fault. TellsFault (read_back (plain_shape shape) (declaration_of format.now) buffers.now) fault) }
 {
+    // so the number of a part has 64 bits
+    let _ = format.parts();
     let read = read_entries(alloc, format, shape, buffers)?;
     if let Some(index) = first_repeated(alloc, &read.found)? {
         return Err(climb_fault(read.found[index].position));

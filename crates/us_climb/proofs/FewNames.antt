@@ -11,13 +11,14 @@ use Rattle.us_format.specs.Matrix.{Shape}
 use Rattle.us_format.specs.Declaration.{Query, Part, argument}
 use Rattle.us_format.specs.Coordinates.{variable_range, variable_ranges}
 use Rattle.us_format.specs.Recover.{plan_of}
-use Rattle.us_decl.specs.Grammar.{Whole, Split}
 use Rattle.us_decl.specs.Grammar as grammar
 use Rattle.us_decl.specs.Names.{names_part}
-use Rattle.us_decl.specs.Limits.{fits_names, fits_queries, fits_levels, fits_part, fits_head, fits_body, fits_name}
-use Rattle.us_decl.specs.Declares.{IsValid, Declared, declared}
+use Rattle.us_decl.specs.Limits.{fits_names, fits_queries, fits_levels, fits_part}
+use Rattle.us_decl.specs.Declares.{IsValid, Declared}
 use Rattle.us_judge.specs.Format.{part_at}
 use Rattle.us_judge.specs.Views.{declaration_of}
+use Rattle.us_judge.proofs.Valid.{each-part}
+use Rattle.us_judge.proofs.SomePart.{some-part}
 use Rattle.us_judge.proofs.ValidExpressions.{UsesBelow, IsSmall, small-valid}
 use Rattle.us_judge.proofs.Accepted.{KeepsRules, accepted-keeps, levels-plain}
 use Rattle.us_invert.proofs.PlanRanges.{plan-rangeable}
@@ -38,13 +39,9 @@ few_names : (p : grammar.Part) → fits_part p ≡ true → length (names_part p
 few_names p h =
     few (names_part p) (right_of _ _ (right_of _ _ (left_of (fits_levels p.queries p.levels) _ (right_of (fits_queries p.queries) _ h))))
 
-few_in : (n : List ℕ) (b : grammar.Body) → fits_body b ≡ true → (part_at (declaration_of (declared (record { name = n; body = b }))) 0).names ≤ 32
-few_in n (Whole p) h = few_names p h
-few_in n (Split s p q) h = few_names p (left_of (fits_part p) (fits_part q) (right_of (fits_head s) (fits_part p && fits_part q) h))
-
 -- a valid declaration has at most 32 names in its first part
 pub names-few : (d : Declared) → IsValid d → (part_at (declaration_of d) 0).names ≤ 32
-names-few d v = subst (λ x. (part_at (declaration_of x) 0).names ≤ 32) v.is (few_in v.text.name v.text.body (right_of (fits_name v.text.name) _ v.within))
+names-few d v = each-part (λ (p : Part). p.names ≤ 32) few_names d v 0 (record { names = 0; queries = []; levels = []; trim = []; merge = []; packs = [] }) (some-part d v)
 
 -- ---- ranges of variables
 

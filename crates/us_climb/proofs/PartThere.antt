@@ -18,7 +18,7 @@ first_short p ps e h = let k : AreShort (p ∷ []) = subst AreShort e h in k.0
 
 pub is-part : (declared : Declared) (p : Part) → IsValid declared → first_refusal (declaration_of declared) ≡ None → p ≡ part_at (declaration_of declared) 0 → IsPartOf declared p
 is-part declared p valid kept is =
-    let one : IsUndivided (declaration_of declared) = undivided declared kept in
+    let one : IsUndivided (declaration_of declared) = undivided declared valid kept in
     record {
       accepted = record { valid = valid; kept = kept };
       undivided = one;

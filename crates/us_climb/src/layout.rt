@@ -199,7 +199,7 @@ impl Layout {
         ensures laid { IsLayout (plain_shape shape) (part_at (declaration_of format.now) 0) result }
         ensures undivided { IsUndivided (declaration_of format.now) }
     {
-        let part = format.part(1);
+        let part = format.first_part();
         let first_pack = format.buffers() - part.packs.len();
         layout_of(format, part, shape, first_pack)
     }

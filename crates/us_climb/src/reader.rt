@@ -66,7 +66,7 @@ impl<'a> Reader<'a> {
         ensures ready { IsReaderOf (plain_shape shape) (declaration_of format.now) buffers.now result }
     {
         let layout = Layout::of(format, shape);
-        let part = format.part(1);
+        let part = format.first_part();
         Reader {
             format,
             shape,

@@ -10,7 +10,7 @@ use Rattle.us_format.specs.Declaration.{Part, has_extent, has_table}
 use Rattle.us_format.specs.Kinds.{kind}
 use Rattle.us_format.specs.Packs.{level_pieces, pieces_from, pieces, is_packed, own_pieces}
 use Rattle.us_format.specs.Reading.{buffer_count, total_count}
-use Rattle.us_decl.specs.Declares.{Declared, IsValid, DeclaredBody, Undivided, Divided}
+use Rattle.us_decl.specs.Declares.{Declared, IsValid}
 use Rattle.us_judge.specs.Views.{declaration_of}
 use Rattle.us_judge.specs.Short.{IsShort, AreShort}
 use Rattle.us_judge.proofs.Valid.{short-valid}
@@ -35,12 +35,9 @@ few_of_all : (ps : List Part) → AreShort ps → sum_by buffer_count ps ≤ 81 
 few_of_all [] h = omega arith
 few_of_all (p ∷ ps) h = omega (arith, sum_by-cons buffer_count p ps, few_buffers p h.0, few_of_all ps h.1)
 
-two_parts : (d : Declared) (b : DeclaredBody) → d.body ≡ b → length (declaration_of d).parts ≤ 2
-two_parts d (Undivided p) h = subst (λ b. length (declaration_of (record d { body = b })).parts ≤ 2) (sym h) (omega arith)
-two_parts d (Divided s p q) h = subst (λ b. length (declaration_of (record d { body = b })).parts ≤ 2) (sym h) (omega arith)
-
 -- a format has few buffers
 pub few_in_all : (d : Declared) (n : ℕ) → IsValid d → n ≡ total_count (declaration_of d) → n < 2 ^ 64
 few_in_all d n v e =
-    let all : sum_by buffer_count (declaration_of d).parts ≤ 81 * length (declaration_of d).parts = few_of_all (declaration_of d).parts (short-valid d v).parts in
-    omega (arith, two_parts d d.body refl)
+    let short = short-valid d v in
+    let all : sum_by buffer_count (declaration_of d).parts ≤ 81 * length (declaration_of d).parts = few_of_all (declaration_of d).parts short.parts in
+    omega (arith, short.few)

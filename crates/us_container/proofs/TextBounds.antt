@@ -8,15 +8,17 @@ use Rattle.std.proofs.lemmas.Fmt.{length-decimal-le}
 use Rattle.std.proofs.lemmas.List.{get_or_past, length-map}
 use Rattle.std.proofs.lemmas.List.Elements.{All-nil, All-cons, All-head, All-tail, All-map, All-push, All-get_or, All-weaker}
 use Rattle.us_expr.specs.Tree.{Tree}
+use Rattle.us_expr.specs.declared.queries.Cond.{Cond}
 use Rattle.us_decl.specs.declared.column.Column.{Column}
 use Rattle.us_decl.specs.declared.column.Column.TheVariants.{Level, Val}
-use Rattle.us_decl.specs.Grammar.{Comma, Only, And, Run, Empty, Then, Expr, One, Plus, Less, Term, Just, Over, Rest, Factor, Row, Col, Named, Num, Group, Query, Single, Lanes, Sum, Enumerate, Reorder, Part, Head, Body, Whole, Split}
+use Rattle.us_decl.specs.Grammar.{Comma, Only, And, Run, Empty, Then, Expr, One, Plus, Less, Term, Just, Over, Rest, Factor, Row, Col, Named, Num, Group, Query, Single, Lanes, Sum, Enumerate, Reorder, Part, Block, Body, Whole, Split, blocks_of}
 use Rattle.us_decl.specs.Words.{is_name, keyword, every, is_free}
 use Rattle.us_tokens.specs.Lex.{first_is, is_letter, is_word}
-use Rattle.us_decl.specs.Names.{with_name, number_of, names_expr, names_term, names_factor, names_query, names_queries, names_comma, names_levels, names_part, names_head}
-use Rattle.us_decl.specs.Limits.{nodes, nodes_term, nodes_factor, all, all_run, all_levels, fits_nodes, fits_number, fits_name, fits_expr, fits_term, fits_factor, fits_whole, fits_query, fits_queries, fits_levels, fits_numbers, fits_column, fits_pack, fits_packs, fits_part, fits_head, fits_body, fits_list, fits_names, count, count_run, count_levels}
-use Rattle.us_decl.specs.Declares.{Declared, IsValid, declared, tree_expr, tree_term, tree_factor, query_of, part_of, head_of, body_of, comma_items, run_items, maybe_items}
-use Rattle.us_print.specs.Canon.{name_text, is_sum, parenthesized, expr_text, asked_text, query_text, column_text, comma, indent, line, numbers_line, queries_lines, pack_text, map_text, part_lines, sign_text, condition_text, head_lines, body_lines, decl_text}
+use Rattle.us_decl.specs.Names.{with_name, number_of, names_expr, names_term, names_factor, names_query, names_queries, names_comma, names_levels, names_part, names_blocks, names_head}
+use Rattle.us_decl.specs.Limits.{nodes, nodes_term, nodes_factor, all, all_run, all_levels, fits_nodes, fits_number, fits_name, fits_expr, fits_term, fits_factor, fits_whole, fits_query, fits_queries, fits_levels, fits_numbers, fits_column, fits_pack, fits_packs, fits_part, fits_block, fits_blocks, fits_head, fits_body, fits_list, fits_names, count, count_run, count_levels}
+use Rattle.us_decl.specs.Declares.{Declared, IsValid, declared, tree_expr, tree_term, tree_factor, query_of, part_of, whole_part, cond_of, parts_of, body_of, comma_items, run_items, maybe_items}
+use Rattle.us_judge.proofs.Valid.{blocks-fit}
+use Rattle.us_print.specs.Canon.{name_text, is_sum, parenthesized, expr_text, asked_text, query_text, column_text, comma, indent, line, numbers_line, queries_lines, pack_text, map_text, part_lines, sign_text, condition_text, opening_line, block_lines, blocks_lines, body_lines, decl_text}
 
 both : (a b : Bool) → (a && b) ≡ true → (a ≡ true) × (b ≡ true)
 both true b h = (refl, h)
@@ -330,50 +332,75 @@ sign_len : (t : Bool) → length (sign_text t) ≤ 4
 sign_len true = omega arith
 sign_len false = omega arith
 
-head_len : (s : Head) → fits_head s ≡ true → length (head_lines (head_of (names_head s) s)) ≤ 40000
-head_len s h =
-    let p1 = both (fits_queries s.queries) (fits_name s.name && (fits_names (names_head s) && fits_number s.bound)) h in
-    let p2 = both (fits_name s.name) (fits_names (names_head s) && fits_number s.bound) p1.1 in
-    let p3 = both (fits_names (names_head s)) (fits_number s.bound) p2.1 in
-    let ns : List (List ℕ) = names_head s in
-    let b : Names ns = by_number ns (with_short s.name (names_queries s.queries) p2.0 (queries_names s.queries p1.0)) in
-    let v : ℕ = number_of s.name ns in
-    let condition : List ℕ = condition_text ns v s.less s.bound in
-    let queries : List ℕ = queries_lines 1 ns (map (query_of ns) (run_items s.queries)) in
+-- the line that opens a part, and the lines of the part
+opening_len : (ns : List (List ℕ)) → Names ns → (k : Block) (cs : List Cond) → fits_number k.bound ≡ true → length (opening_line ns (cond_of ns k ∷ cs)) ≤ 100
+opening_len ns b k cs h =
+    let v : ℕ = number_of k.name ns in
+    let condition : List ℕ = condition_text ns (cond_of ns k) in
     let whole : List ℕ = codes "part when " ++ (condition ++ codes " {") in
     omega (
       arith,
-      queries_len ns b 1 s.queries (omega arith) p1.0,
       b v,
-      sign_len s.less,
-      digits s.bound p3.1,
+      sign_len k.less,
+      digits k.bound h,
       line_len 1 whole,
-      length-append queries (line 1 whole),
       length-append condition (codes " {"),
-      length-append (name_text ns v) (sign_text s.less ++ decimal s.bound),
-      length-append (sign_text s.less) (decimal s.bound),
+      length-append (name_text ns v) (sign_text k.less ++ decimal k.bound),
+      length-append (sign_text k.less) (decimal k.bound),
     )
 
-body_len : (b : Body) → fits_body b ≡ true → length (body_lines (body_of b)) ≤ 5000000
+block_len : (p : Part) → fits_part p ≡ true → length (block_lines (whole_part p)) ≤ 2000010
+block_len p h = omega (arith, part_len 2 (names_part p) p (part_names p h) (omega arith) h, length-append (part_lines 2 (whole_part p)) (line 1 (codes "}")))
+
+blocks_len : (ns : List (List ℕ)) → Names ns → (ks : List Block) (q : Part) → All (λ k. fits_block k ≡ true) ks → fits_part q ≡ true
+    → length (blocks_lines ns (map (cond_of ns) ks) (map (λ (k : Block). whole_part k.part) ks ++ (whole_part q ∷ []))) ≤ 2001000 * (length ks + 1)
+blocks_len ns b [] q h g =
+    omega (arith, block_len q g, length-append (opening_line ns []) (block_lines (whole_part q)), length-append (opening_line ns [] ++ block_lines (whole_part q)) [])
+blocks_len ns b (k ∷ ks) q h g =
+    let cs : List Cond = map (cond_of ns) ks in
+    let this : fits_block k ≡ true = All-head (λ k. fits_block k ≡ true) k ks h in
+    let bound = both (fits_number k.bound) (fits_part k.part) (both (fits_name k.name) (fits_number k.bound && fits_part k.part) this).1 in
+    let opened : List ℕ = opening_line ns (cond_of ns k ∷ cs) in
+    omega (
+      arith,
+      opening_len ns b k cs bound.0,
+      block_len k.part bound.1,
+      blocks_len ns b ks q (All-tail (λ k. fits_block k ≡ true) k ks h) g,
+      length-append opened (block_lines (whole_part k.part)),
+      length-append (opened ++ block_lines (whole_part k.part)) (blocks_lines ns cs (map (λ (k : Block). whole_part k.part) ks ++ (whole_part q ∷ []))),
+    )
+
+block_names : (bs : Run Block) (ns : List (List ℕ)) → all_run fits_block bs ≡ true → All Short ns → All Short (names_blocks bs ns)
+block_names Empty ns h s = s
+block_names (Then bs k) ns h s =
+    let p = both (all_run fits_block bs) (fits_block k) h in
+    with_short k.name (names_blocks bs ns) (both (fits_name k.name) (fits_number k.bound && fits_part k.part) p.1).0 (block_names bs ns p.0 s)
+
+run_length : {A : Type 0} (xs : Run A) → length (run_items xs) ≡ count_run xs
+run_length Empty = refl
+run_length (Then xs x) = omega (arith, length-append (run_items xs) (x ∷ []), run_length xs)
+
+body_len : (b : Body) → fits_body b ≡ true → length (body_lines (body_of b)) ≤ 9000000
 body_len (Whole p) h = omega (arith, part_len 1 (names_part p) p (part_names p h) (omega arith) h)
 body_len (Split s p q) h =
     let h1 = both (fits_head s) (fits_part p && fits_part q) h in
     let h2 = both (fits_part p) (fits_part q) h1.1 in
-    let head : List ℕ = head_lines (head_of (names_head s) s) in
-    let first : List ℕ = part_lines 2 (part_of (names_part p) p) in
-    let second : List ℕ = part_lines 2 (part_of (names_part q) q) in
-    let last : List ℕ = second ++ line 1 (codes "}") in
-    omega (
-      arith,
-      head_len s h1.0,
-      part_len 2 (names_part p) p (part_names p h2.0) (omega arith) h2.0,
-      part_len 2 (names_part q) q (part_names q h2.1) (omega arith) h2.1,
-      length-append head (first ++ (line 1 (codes "}") ++ (line 1 (codes "rest {") ++ last))),
-      length-append first (line 1 (codes "}") ++ (line 1 (codes "rest {") ++ last)),
-      length-append second (line 1 (codes "}")),
-    )
+    let last : Bool = fits_name s.name && (fits_names (names_head s) && fits_number s.bound) in
+    let h3 = both (fits_queries s.queries) (fits_blocks s.queries s.blocks && last) h1.0 in
+    let h4 = both (fits_blocks s.queries s.blocks) last h3.1 in
+    let h5 = both (all_run fits_block s.blocks) (ltb (count_run s.blocks) 3 && fits_names (names_blocks s.blocks (names_queries s.queries))) h4.0 in
+    let h6 = both (ltb (count_run s.blocks) 3) (fits_names (names_blocks s.blocks (names_queries s.queries))) h5.1 in
+    let bs : Run Block = blocks_of s p in
+    let fit : all_run fits_block (blocks_of s p) ≡ true = blocks-fit s p h1.0 h2.0 in
+    let ns : List (List ℕ) = names_head s in
+    let b : Names ns = by_number ns (block_names bs (names_queries s.queries) fit (queries_names s.queries h3.0)) in
+    let queries : List ℕ = queries_lines 1 ns (map (query_of ns) (run_items s.queries)) in
+    let parts : List ℕ = blocks_lines ns (map (cond_of ns) (run_items bs)) (parts_of bs q) in
+    let few : count_run s.blocks < 3 = ltb-true (count_run s.blocks) 3 h6.0 in
+    let all_len : length parts ≤ 2001000 * (length (run_items bs) + 1) = blocks_len ns b (run_items bs) q (run_all (λ k. fits_block k ≡ true) fits_block (λ k e. e) bs fit) h2.1 in
+    omega (arith, queries_len ns b 1 s.queries (omega arith) h3.0, all_len, few, run_length bs, length-append queries parts)
 
-decl_len : (n : List ℕ) (b : Body) → is_name n ≡ true → fits_body b ≡ true → length (decl_text (declared (record { name = n; body = b }))) ≤ 6000000
+decl_len : (n : List ℕ) (b : Body) → is_name n ≡ true → fits_body b ≡ true → length (decl_text (declared (record { name = n; body = b }))) ≤ 10000000
 decl_len n b name h =
     let front : List ℕ = codes "format " ++ (n ++ codes " {") in
     omega (arith, name_short n name, body_len b h, line_len 0 front, length-append n (codes " {"), length-append (line 0 front) (body_lines (body_of b)), length-append (line 0 front ++ body_lines (body_of b)) (line 0 (codes "}")))
@@ -382,5 +409,5 @@ decl_len n b name h =
 pub short_text : (d : Declared) → IsValid d → length (decl_text d) < 2 ^ 64
 short_text d v =
     let p = both (fits_name v.text.name) (fits_body v.text.body) v.within in
-    let few : length (decl_text (declared v.text)) ≤ 6000000 = decl_len v.text.name v.text.body p.0 p.1 in
+    let few : length (decl_text (declared v.text)) ≤ 10000000 = decl_len v.text.name v.text.body p.0 p.1 in
     omega (arith, ap (λ x. length (decl_text x)) v.is)

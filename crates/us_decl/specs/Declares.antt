@@ -1,9 +1,10 @@
 -- What a text declares: names as numbers, expressions as trees, lists as lists.
-use Rattle.std.specs.Prelude.{◌≡◌, ℕ, suc, List, [], ◌∷◌, ◌++◌, map, Option, Some, None, Bool, true}
+use Rattle.std.specs.Prelude.{◌≡◌, ℕ, suc, List, [], ◌∷◌, ◌++◌, map, Option, Some, None, true}
 use Rattle.us_expr.specs.Tree.{Tree, RowIndex, ColIndex, Variable, Sum, Difference, Quotient, Remainder}
 use Rattle.us_expr.specs.Tree as trees
+use Rattle.us_expr.specs.declared.queries.Cond.{Cond}
 use Rattle.us_decl.specs.declared.column.Column.{Column}
-use Rattle.us_decl.specs.Grammar.{Comma, Only, And, Run, Empty, Then, Expr, One, Plus, Less, Term, Just, Over, Rest, Factor, Row, Col, Named, Num, Group, Word, Single, Lanes, Part, Head, Body, Whole, Split}
+use Rattle.us_decl.specs.Grammar.{Comma, Only, And, Run, Empty, Then, Expr, One, Plus, Less, Term, Just, Over, Rest, Factor, Row, Col, Named, Num, Group, Word, Single, Lanes, Part, Block, Body, Whole, Split, blocks_of}
 use Rattle.us_decl.specs.Grammar as grammar
 use Rattle.us_decl.specs.Names.{number_of, names_part, names_head}
 use Rattle.us_decl.specs.Limits.{fits_decl}
@@ -25,13 +26,12 @@ pub record DeclaredPart : Type 0 where
 pub record DeclaredHead : Type 0 where
   pub names : List (List ℕ)
   pub queries : List Query
-  pub var : ℕ
-  pub less : Bool
-  pub bound : ℕ
+  pub conds : List Cond
 
+-- one part alone, or a head, a part for each of its conditions, and the part of the rest
 pub data DeclaredBody : Type 0 where
   Undivided : DeclaredPart → DeclaredBody
-  Divided : DeclaredHead → DeclaredPart → DeclaredPart → DeclaredBody
+  Divided : DeclaredHead → List DeclaredPart → DeclaredBody
 
 pub record Declared : Type 0 where
   pub name : List ℕ
@@ -85,18 +85,27 @@ part_of ns p = record {
   packs = map comma_items (run_items p.packs);
 }
 
-abbrev pub head_of : List (List ℕ) → Head → DeclaredHead
-head_of ns h = record {
+-- a part whose names are its own
+abbrev pub whole_part : Part → DeclaredPart
+whole_part p = part_of (names_part p) p
+
+abbrev pub cond_of : List (List ℕ) → Block → Cond
+cond_of ns b = record { var = number_of b.name ns; less = b.less; bound = b.bound }
+
+abbrev pub head_of : List (List ℕ) → Run grammar.Query → Run Block → DeclaredHead
+head_of ns qs bs = record {
   names = ns;
-  queries = map (query_of ns) (run_items h.queries);
-  var = number_of h.name ns;
-  less = h.less;
-  bound = h.bound;
+  queries = map (query_of ns) (run_items qs);
+  conds = map (cond_of ns) (run_items bs);
 }
 
+-- the parts of the conditions, and the part of the rest
+abbrev pub parts_of : Run Block → Part → List DeclaredPart
+parts_of bs q = map (λ b. whole_part b.part) (run_items bs) ++ (whole_part q ∷ [])
+
 abbrev pub body_of : Body → DeclaredBody
-body_of (Whole p) = Undivided (part_of (names_part p) p)
-body_of (Split h p q) = Divided (head_of (names_head h) h) (part_of (names_part p) p) (part_of (names_part q) q)
+body_of (Whole p) = Undivided (whole_part p)
+body_of (Split h p q) = Divided (head_of (names_head h) h.queries (blocks_of h p)) (parts_of (blocks_of h p) q)
 
 -- what a text of the grammar declares
 abbrev pub declared : grammar.Decl → Declared

@@ -54,15 +54,33 @@ pub record Part : Type 0 where
   pub merge : Option (Comma ℕ)
   pub packs : Run (Comma Column)
 
-pub record Head : Type 0 where
-  pub queries : Run Query
+-- part when NAME < NUMBER { Part }, or the same with >=
+pub record Block : Type 0 where
   pub name : List ℕ
   pub less : Bool  -- < stands between the name and the number, and not >=
   pub bound : ℕ
+  pub part : Part
 
+-- the queries of a divided body, its blocks before the last, and the condition of the last
+pub record Head : Type 0 where
+  pub queries : Run Query
+  pub blocks : Run Block
+  pub name : List ℕ
+  pub less : Bool
+  pub bound : ℕ
+
+-- one part alone; or a head, the part of its last condition, and the part of the rest
 pub data Body : Type 0 where
   Whole : Part → Body
   Split : Head → Part → Part → Body
+
+-- a condition and its part
+abbrev pub block_of : List ℕ → Bool → ℕ → Part → Block
+block_of v less k p = record { name = v; less = less; bound = k; part = p }
+
+-- all blocks of a divided body
+abbrev pub blocks_of : Head → Part → Run Block
+blocks_of h p = Then h.blocks (block_of h.name h.less h.bound p)
 
 pub record Decl : Type 0 where
   pub name : List ℕ
@@ -140,12 +158,21 @@ abbrev pub sign_token : Bool → Token
 sign_token true = Fixed mark.Less
 sign_token false = Fixed mark.AtLeast
 
-abbrev pub head_tokens : Head → List Token
-head_tokens h = queries_tokens h.queries ++ (Fixed mark.Part ∷ Fixed mark.When ∷ Name h.name ∷ sign_token h.less ∷ Number h.bound ∷ [])
-
 -- a part in its braces
 abbrev pub braced : Part → List Token
 braced p = Fixed mark.BraceOpen ∷ (part_tokens p ++ (Fixed mark.BraceClose ∷ []))
+
+abbrev pub condition_tokens : List ℕ → Bool → ℕ → List Token
+condition_tokens v less k = Fixed mark.Part ∷ Fixed mark.When ∷ Name v ∷ sign_token less ∷ Number k ∷ []
+
+abbrev pub block_tokens : Block → List Token
+block_tokens b = condition_tokens b.name b.less b.bound ++ braced b.part
+
+abbrev pub blocks_tokens : Run Block → List Token
+blocks_tokens bs = run_tokens block_tokens bs
+
+abbrev pub head_tokens : Head → List Token
+head_tokens h = queries_tokens h.queries ++ (blocks_tokens h.blocks ++ condition_tokens h.name h.less h.bound)
 
 abbrev pub body_tokens : Body → List Token
 body_tokens (Whole p) = part_tokens p

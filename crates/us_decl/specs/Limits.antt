@@ -1,10 +1,10 @@
 -- The limits of a text: how large its numbers, names, expressions and lists may be.
 use Rattle.std.specs.Prelude.{ℕ, suc, ◌+◌, List, length, Bool, true, ltb, ◌&&◌, Option, Some, None}
-use Rattle.us_decl.specs.Grammar.{Comma, Only, And, Run, Empty, Then, Expr, One, Plus, Less, Term, Just, Over, Rest, Factor, Row, Col, Named, Num, Group, Query, Single, Lanes, Part, Head, Body, Whole, Split, Decl}
+use Rattle.us_decl.specs.Grammar.{Comma, Only, And, Run, Empty, Then, Expr, One, Plus, Less, Term, Just, Over, Rest, Factor, Row, Col, Named, Num, Group, Query, Single, Lanes, Part, Block, Head, Body, Whole, Split, Decl}
 use Rattle.us_decl.specs.declared.column.Column.{Column}
 use Rattle.us_decl.specs.declared.column.Column.TheVariants.{Level, Val}
 use Rattle.us_decl.specs.Words.{is_name}
-use Rattle.us_decl.specs.Names.{names_queries, names_levels, names_head}
+use Rattle.us_decl.specs.Names.{names_queries, names_levels, names_blocks, names_head}
 
 abbrev pub count : {A : Type 0} → Comma A → ℕ
 count (Only x) = 1
@@ -116,8 +116,15 @@ fits_packs ps = all_run fits_pack ps && fits_list (count_run ps)
 abbrev pub fits_part : Part → Bool
 fits_part p = fits_queries p.queries && (fits_levels p.queries p.levels && (fits_numbers p.trim && (fits_numbers p.merge && fits_packs p.packs)))
 
+abbrev pub fits_block : Block → Bool
+fits_block b = fits_name b.name && (fits_number b.bound && fits_part b.part)
+
+-- the blocks behind these queries, where one more follows: there are at most three in all
+abbrev pub fits_blocks : Run Query → Run Block → Bool
+fits_blocks qs bs = all_run fits_block bs && (ltb (count_run bs) 3 && fits_names (names_blocks bs (names_queries qs)))
+
 abbrev pub fits_head : Head → Bool
-fits_head h = fits_queries h.queries && (fits_name h.name && (fits_names (names_head h) && fits_number h.bound))
+fits_head h = fits_queries h.queries && (fits_blocks h.queries h.blocks && (fits_name h.name && (fits_names (names_head h) && fits_number h.bound)))
 
 abbrev pub fits_body : Body → Bool
 fits_body (Whole p) = fits_part p

@@ -1,7 +1,7 @@
 -- The names of a head or a part, in the order of their first occurrences. The place of a name there is its number.
 use Rattle.std.specs.Prelude.{ℕ, List, [], ◌∷◌, ◌++◌, length, Bool, true, false, cond, not, eqb, ltb, ◌&&◌, Option, Some, None}
 use Rattle.std.specs.List.{prefix_len}
-use Rattle.us_decl.specs.Grammar.{Comma, Only, And, Run, Empty, Then, Expr, One, Plus, Less, Term, Just, Over, Rest, Factor, Row, Col, Named, Num, Group, Query, Single, Lanes, Part, Head}
+use Rattle.us_decl.specs.Grammar.{Comma, Only, And, Run, Empty, Then, Expr, One, Plus, Less, Term, Just, Over, Rest, Factor, Row, Col, Named, Num, Group, Query, Single, Lanes, Part, Block, Head}
 
 abbrev pub same_name : List ℕ → List ℕ → Bool
 same_name [] [] = true
@@ -55,8 +55,13 @@ names_levels (Some es) ns = names_comma es ns
 abbrev pub names_part : Part → List (List ℕ)
 names_part p = names_levels p.levels (names_queries p.queries)
 
+abbrev pub names_blocks : Run Block → List (List ℕ) → List (List ℕ)
+names_blocks Empty ns = ns
+names_blocks (Then bs b) ns = with_name b.name (names_blocks bs ns)
+
+-- those of the queries, and then those of the conditions
 abbrev pub names_head : Head → List (List ℕ)
-names_head h = with_name h.name (names_queries h.queries)
+names_head h = with_name h.name (names_blocks h.blocks (names_queries h.queries))
 
 -- the name is one of these
 abbrev pub is_among : List ℕ → List (List ℕ) → Bool

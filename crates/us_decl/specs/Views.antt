@@ -30,14 +30,12 @@ abbrev pub head_view : Head → DeclaredHead
 head_view h = record {
   names = h.names;
   queries = map query_view h.queries;
-  var = h.cond.var;
-  less = h.cond.less;
-  bound = h.cond.bound;
+  conds = h.conds;
 }
 
 abbrev pub body_view : Body → DeclaredBody
 body_view (bodies.One p) = Undivided (part_view p)
-body_view (bodies.Two h p q) = Divided (head_view h) (part_view p) (part_view q)
+body_view (bodies.Split h ps) = Divided (head_view h) (map part_view ps)
 
 abbrev pub decl_view : Decl → Declared
 decl_view d = record { name = d.name; body = body_view d.body }

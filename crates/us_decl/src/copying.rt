@@ -2,7 +2,9 @@
 
 ghost use Rattle.std.specs.Prelude.{◌≡◌, IfOk};
 
-use crate::decl::{Body, Decl, Head, Levels, Names, Numbers, Pack, Packs, Part, Queries};
+use crate::decl::{
+    Body, Conds, Decl, Head, Levels, Names, Numbers, Pack, Packs, Part, Parts, Queries,
+};
 use crate::name::Name;
 use std::alloc::{AllocError, Global};
 use us_expr::{Expr, Query};
@@ -14,10 +16,9 @@ impl Decl {
     {
         let body = match &self.body {
             Body::One(part) => Body::One(copy_part(alloc, part)?),
-            Body::Two { head, first, rest } => Body::Two {
+            Body::Split { head, parts } => Body::Split {
                 head: copy_head(alloc, head)?,
-                first: copy_part(alloc, first)?,
-                rest: copy_part(alloc, rest)?,
+                parts: copy_parts(alloc, parts.as_slice())?,
             },
         };
         Ok(Decl {
@@ -33,8 +34,18 @@ fn copy_head(alloc: Global, head: &Head) -> Result<Head, AllocError>
     Ok(Head {
         names: copy_names(alloc, head.names.as_slice())?,
         queries: copy_queries(alloc, head.queries.as_slice())?,
-        cond: head.cond,
+        conds: Conds::from_slice(alloc, head.conds.as_slice())?,
     })
+}
+
+fn copy_parts(alloc: Global, parts: &[Part]) -> Result<Parts, AllocError>
+    ensures { IfOk result (λ c. c ≡ parts.now) }
+{
+    let mut copy = Parts::new(alloc);
+    for part in parts {
+        copy.push(copy_part(alloc, part)?)?;
+    }
+    Ok(copy)
 }
 
 fn copy_part(alloc: Global, part: &Part) -> Result<Part, AllocError>

@@ -23,6 +23,12 @@ pub type Pack = Items<Column>;
 /// The packs of a part.
 pub type Packs = Items<Pack>;
 
+/// The conditions of a head, in order.
+pub type Conds = Items<Cond>;
+
+/// The parts of a divided declaration, in order: one for each condition, and the last for the rest.
+pub type Parts = Items<Part>;
+
 /// The declaration of a format.
 #[derive(Debug, Drop)]
 pub struct Decl {
@@ -30,19 +36,20 @@ pub struct Decl {
     pub body: Body,
 }
 
-/// One part, or a head whose condition divides the entries between two parts.
+/// One part, or a head whose conditions divide the entries among parts. An entry belongs to the part of the first
+/// condition that it meets, and to the last part if it meets none.
 #[derive(Debug, Drop)]
 pub enum Body {
     One(Part),
-    Two { head: Head, first: Part, rest: Part },
+    Split { head: Head, parts: Parts },
 }
 
-/// The queries of a divided declaration, over the whole matrix, and its condition.
+/// The queries of a divided declaration, over the whole matrix, and its conditions, one to three.
 #[derive(Debug, Drop)]
 pub struct Head {
     pub names: Names,
     pub queries: Queries,
-    pub cond: Cond,
+    pub conds: Conds,
 }
 
 /// Queries, levels, and how the levels are stored.

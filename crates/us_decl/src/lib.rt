@@ -10,7 +10,9 @@ mod mark;
 mod name;
 
 pub use column::Column;
-pub use decl::{Body, Decl, Head, Levels, Names, Numbers, Pack, Packs, Part, Queries};
+pub use decl::{
+    Body, Conds, Decl, Head, Levels, Names, Numbers, Pack, Packs, Part, Parts, Queries,
+};
 pub use lexeme::{Lexeme, is_same_name};
 pub use library::Library;
 pub use mark::Mark;

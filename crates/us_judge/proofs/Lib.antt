@@ -15,3 +15,4 @@ pub mod Counting
 pub mod ValidExpressions
 pub mod Accepted
 pub mod EntryFormat
+pub mod EachPart

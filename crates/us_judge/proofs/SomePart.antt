@@ -1,11 +1,13 @@
--- A declaration has a part.
+-- A valid declaration has a part.
 use Rattle.std.proofs.Common.{ℕ, ◌≤◌, List, length, arith}
-use Rattle.us_decl.specs.Declares.{Declared, DeclaredBody, Undivided, Divided}
-use Rattle.us_judge.specs.Views.{declaration_of}
+use Rattle.std.proofs.lemmas.List.{length-map}
+use Rattle.us_decl.specs.Declares.{Declared, DeclaredBody, Undivided, Divided, IsValid}
+use Rattle.us_judge.specs.Views.{part_of, declaration_of}
+use Rattle.us_judge.proofs.Valid.{IsShaped, shaped-valid}
 
-has-part : (name : List ℕ) (body : DeclaredBody) → 1 ≤ length (declaration_of (record { name = name; body = body })).parts
-has-part name (Undivided p) = omega arith
-has-part name (Divided h p q) = omega arith
+has-part : (name : List ℕ) (body : DeclaredBody) → IsShaped body → 1 ≤ length (declaration_of (record { name = name; body = body })).parts
+has-part name (Undivided p) s = omega arith
+has-part name (Divided h ps) s = omega (arith, s.2, length-map ps part_of)
 
-pub some-part : (d : Declared) → 1 ≤ length (declaration_of d).parts
-some-part d = has-part d.name d.body
+pub some-part : (d : Declared) → IsValid d → 1 ≤ length (declaration_of d).parts
+some-part d v = has-part d.name d.body (shaped-valid d v)

@@ -6,14 +6,15 @@ use Rattle.std.proofs.lemmas.Bool.Decides.{nat_tests}
 use Rattle.std.proofs.lemmas.List.Elements.{All-nil, All-cons, All-append, All-map}
 use Rattle.us_expr.specs.Tree.{Tree, Variable, node_count, uses}
 use Rattle.us_expr.specs.Value.{IsWithin}
-use Rattle.us_decl.specs.Grammar.{Comma, Only, And, Expr, One, Plus, Less, Term, Just, Over, Rest, Factor, Row, Col, Named, Num, Group, Whole, Split}
+use Rattle.us_decl.specs.Grammar.{Comma, Only, And, Expr, One, Plus, Less, Term, Just, Over, Rest, Factor, Row, Col, Named, Num, Group}
 use Rattle.us_decl.specs.Grammar as grammar
 use Rattle.us_decl.specs.Names.{number_of, names_part}
-use Rattle.us_decl.specs.Limits.{nodes, nodes_term, nodes_factor, all, all_levels, fits_nodes, fits_number, fits_expr, fits_term, fits_factor, fits_whole, fits_queries, fits_levels, fits_part, fits_head, fits_body, fits_name}
-use Rattle.us_decl.specs.Declares.{tree_expr, tree_term, tree_factor, comma_items, maybe_items, IsValid, Declared, declared}
+use Rattle.us_decl.specs.Limits.{nodes, nodes_term, nodes_factor, all, all_levels, fits_nodes, fits_number, fits_expr, fits_term, fits_factor, fits_whole, fits_queries, fits_levels, fits_part}
+use Rattle.us_decl.specs.Declares.{tree_expr, tree_term, tree_factor, comma_items, maybe_items, IsValid, Declared}
 use Rattle.us_decl.specs.Declares as text
 use Rattle.us_format.specs.Declaration.{Part}
 use Rattle.us_judge.specs.Views.{part_of, declaration_of}
+use Rattle.us_judge.proofs.Valid.{each-part}
 
 left_of : (a b : Bool) → (a && b) ≡ true → a ≡ true
 left_of true b e = refl
@@ -120,16 +121,6 @@ HasSmallLevels p = All IsSmall p.levels
 small-part : (ns : List (List ℕ)) (p : grammar.Part) → fits_part p ≡ true → HasSmallLevels (part_of (text.part_of ns p))
 small-part ns p h = small-levels ns p.levels (left_of (all_levels p.levels) _ (left_of (fits_levels p.queries p.levels) _ (right_of (fits_queries p.queries) _ h)))
 
-one-part : (ns : List (List ℕ)) (p : grammar.Part) → fits_part p ≡ true → All HasSmallLevels (part_of (text.part_of ns p) ∷ [])
-one-part ns p h = All-cons HasSmallLevels (part_of (text.part_of ns p)) [] (small-part ns p h) (All-nil HasSmallLevels)
-
-small-body : (n : List ℕ) (b : grammar.Body) → fits_body b ≡ true → All HasSmallLevels (declaration_of (declared (record { name = n; body = b }))).parts
-small-body n (Whole p) h = one-part (names_part p) p h
-small-body n (Split s p q) h =
-    let both : (fits_part p && fits_part q) ≡ true = right_of (fits_head s) (fits_part p && fits_part q) h in
-    All-cons HasSmallLevels (part_of (text.part_of (names_part p) p)) (part_of (text.part_of (names_part q) q) ∷ [])
-    (small-part (names_part p) p (left_of (fits_part p) (fits_part q) both)) (one-part (names_part q) q (right_of (fits_part p) (fits_part q) both))
-
 -- the levels of a valid declaration are small
 pub small-valid : (d : Declared) → IsValid d → All HasSmallLevels (declaration_of d).parts
-small-valid d v = subst (λ x. All HasSmallLevels (declaration_of x).parts) v.is (small-body v.text.name v.text.body (right_of (fits_name v.text.name) _ v.within))
+small-valid d v = each-part HasSmallLevels (λ p h. small-part (names_part p) p h) d v

@@ -2,7 +2,7 @@
 --
 -- Each rule names the first item of a part that breaks it. The items of a part are numbered from 0 in the order of its
 -- text: the queries, the levels, the numbers after `trim`, the numbers after `merge`, the packs. The items of a head are
--- its queries and then the condition. Rules on a part as a whole name the item 0.
+-- its queries and then the conditions in their order. Rules on a part as a whole name the item 0.
 use Rattle.std.specs.Prelude.{ℕ, suc, ◌+◌, List, [], ◌∷◌, ◌++◌, length, Bool, true, false, not, ◌&&◌, ◌||◌, nat_eq, nat_lt, nat_le, if◌then◌else◌, Option, Some, None}
 use Rattle.std.specs.List.{list_all, list_any, range_with_len}
 use Rattle.us_expr.specs.declared.queries.Cond.{Cond}

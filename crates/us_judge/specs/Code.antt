@@ -1,5 +1,6 @@
 -- The code of what a text declares, by which proofs tell two values apart: a tuple of what it is made of.
 use Rattle.std.specs.Prelude.{ℕ, zero, suc, Bool, List, ◌≡◌, ◌⊎◌, refl}
+use Rattle.us_expr.specs.declared.queries.Cond.{Cond}
 use Rattle.std.proofs.Common.{inl, inr}
 use Rattle.std.specs.Coded.{Coded, code_by, coded×, coded⊎, coded_list, coded_ℕ, coded_bool}
 use Rattle.us_expr.specs.Tree.{Tree}
@@ -68,31 +69,35 @@ part_code =
     (λ t. record { names = t.0.0; queries = t.0.1; levels = t.1.0.0; trim = t.1.0.1; merge = t.1.1.0; packs = t.1.1.1 })
     (λ _. refl)
 
+abbrev cond_code : Coded Cond
+cond_code = code_by (ℕ × (Bool × ℕ)) (coded× coded_ℕ (coded× coded_bool coded_ℕ)) (λ c. (c.var, (c.less, c.bound))) (λ t. record { var = t.0; less = t.1.0; bound = t.1.1 }) (λ _. refl)
+
 abbrev head_code : Coded DeclaredHead
 head_code =
-    code_by ((List (List ℕ) × List Query) × (ℕ × (Bool × ℕ)))
-    (coded× (coded× (coded_list numbers_code) (coded_list query_code)) (coded× coded_ℕ (coded× coded_bool coded_ℕ)))
-    (λ h. ((h.names, h.queries), (h.var, (h.less, h.bound))))
-    (λ t. record { names = t.0.0; queries = t.0.1; var = t.1.0; less = t.1.1.0; bound = t.1.1.1 })
+    code_by ((List (List ℕ) × List Query) × List Cond)
+    (coded× (coded× (coded_list numbers_code) (coded_list query_code)) (coded_list cond_code))
+    (λ h. ((h.names, h.queries), h.conds))
+    (λ t. record { names = t.0.0; queries = t.0.1; conds = t.1 })
     (λ _. refl)
 
-abbrev Halves : Type 0
-Halves = DeclaredPart ⊎ (DeclaredHead × (DeclaredPart × DeclaredPart))
+-- one part, or a head and parts
+abbrev OneOrMore : Type 0
+OneOrMore = DeclaredPart ⊎ (DeclaredHead × List DeclaredPart)
 
-abbrev halves_of : DeclaredBody → Halves
-halves_of (Undivided p) = inl p
-halves_of (Divided h p q) = inr (h, (p, q))
+abbrev pieces_of : DeclaredBody → OneOrMore
+pieces_of (Undivided p) = inl p
+pieces_of (Divided h ps) = inr (h, ps)
 
-abbrev body_of : Halves → DeclaredBody
+abbrev body_of : OneOrMore → DeclaredBody
 body_of (inl p) = Undivided p
-body_of (inr t) = Divided t.0 t.1.0 t.1.1
+body_of (inr t) = Divided t.0 t.1
 
-pub body_is : (b : DeclaredBody) → body_of (halves_of b) ≡ b
+pub body_is : (b : DeclaredBody) → body_of (pieces_of b) ≡ b
 body_is (Undivided p) = refl
-body_is (Divided h p q) = refl
+body_is (Divided h ps) = refl
 
 abbrev body_code : Coded DeclaredBody
-body_code = code_by Halves (coded⊎ part_code (coded× head_code (coded× part_code part_code))) halves_of body_of body_is
+body_code = code_by OneOrMore (coded⊎ part_code (coded× head_code (coded_list part_code))) pieces_of body_of body_is
 
 abbrev pub declared_code : Coded Declared
 declared_code = code_by (List ℕ × DeclaredBody) (coded× numbers_code body_code) (λ d. (d.name, d.body)) (λ t. record { name = t.0; body = t.1 }) (λ _. refl)

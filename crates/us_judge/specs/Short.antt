@@ -14,7 +14,9 @@ abbrev pub AreShort : List Part → Type 0
 AreShort [] = Unit {0}
 AreShort (p ∷ ps) = IsShort p × AreShort ps
 
--- nor any list of a declaration
+-- nor any list of a declaration, which has at most three conditions and four parts
 pub record IsShortDeclaration (d : Declaration) : Type 0 where
   pub head : length d.head ≤ 16
+  pub conds : length d.conds ≤ 3
+  pub few : length d.parts ≤ 4
   pub parts : AreShort d.parts

@@ -37,12 +37,7 @@ declaration_of d = by_body d.body
   where
     by_body : DeclaredBody → Declaration
     by_body (Undivided p) = record { head_names = 0; head = []; conds = []; parts = part_of p ∷ [] }
-    by_body (Divided h p q) = record {
-      head_names = length h.names;
-      head = map plain_query h.queries;
-      conds = record { var = h.var; less = h.less; bound = h.bound } ∷ [];
-      parts = part_of p ∷ part_of q ∷ [];
-    }
+    by_body (Divided h ps) = record { head_names = length h.names; head = map plain_query h.queries; conds = h.conds; parts = map part_of ps }
 
 -- a part of the program
 abbrev pub plain_part : held.Part → Part
@@ -58,13 +53,8 @@ plain_part p = record {
 -- a body of the program
 abbrev pub plain_body : bodies.Body → Declaration
 plain_body (body.One p) = record { head_names = 0; head = []; conds = []; parts = plain_part p ∷ [] }
-plain_body (body.Two h p q) = record {
-  head_names = length h.names;
-  head = map query_of h.queries;
-  conds = h.cond ∷ [];
-  parts = plain_part p ∷ plain_part q ∷ [];
-}
+plain_body (body.Split h ps) = record { head_names = length h.names; head = map query_of h.queries; conds = h.conds; parts = map plain_part ps }
 
 -- a head of the program, without the parts
 abbrev pub plain_head : heads.Head → Declaration
-plain_head h = record { head_names = length h.names; head = map query_of h.queries; conds = h.cond ∷ []; parts = [] }
+plain_head h = record { head_names = length h.names; head = map query_of h.queries; conds = h.conds; parts = [] }

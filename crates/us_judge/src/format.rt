@@ -1,7 +1,8 @@
 //! Formats: declarations that break no rule.
 ghost use Rattle.std.specs.Prelude.{◌≡◌, ◌<◌, ◌≤◌, ◌-◌, [], ◌∷◌, None, map, length, IfOk, OnOk, IfErr};
 ghost use Rattle.us_format.specs.Kinds.{kind};
-ghost use Rattle.us_format.specs.Reading.{total_count};
+ghost use Rattle.std.specs.List.{sum_by};
+ghost use Rattle.us_format.specs.Reading.{buffer_count, total_count};
 ghost use Rattle.us_decl.specs.Declares.{IsValid};
 ghost use Rattle.us_decl.specs.Views.{decl_view};
 ghost use Rattle.us_judge.specs.Acceptance.{first_refusal, parts_refusal};
@@ -61,38 +62,34 @@ fn judge_one(alloc: Global, part: &Part) -> Result<Items<Kinds>, JudgeFault>
     Ok(all)
 }
 
-/// Judges the parts of a divided declaration.
-fn judge_parts(alloc: Global, first: &Part, rest: &Part) -> Result<Items<Kinds>, JudgeFault>
-    requires first { IsShort (plain_part first.now) }
-    requires rest { IsShort (plain_part rest.now) }
-    ensures kinds { IfOk result (λ kinds. kinds ≡ kinds_of (plain_part first.now) ∷ kinds_of (plain_part rest.now) ∷ []) }
-    ensures accepted { OnOk result (parts_refusal 1 (plain_part first.now ∷ plain_part rest.now ∷ []) ≡ None) }
-    ensures refused { IfErr result (λ fault. Explains fault (parts_refusal 1 (plain_part first.now ∷ plain_part rest.now ∷ []))) }
+/// Judges the parts of a divided declaration, which are numbered from 1.
+fn judge_parts(alloc: Global, parts: &[Part]) -> Result<Items<Kinds>, JudgeFault>
+    requires few { length parts.now ≤ 4 }
+    requires short { AreShort (map plain_part parts.now) }
+    ensures kinds { IfOk result (λ kinds. kinds ≡ map kinds_of (map plain_part parts.now)) }
+    ensures accepted { OnOk result (parts_refusal 1 (map plain_part parts.now) ≡ None) }
+    ensures refused { IfErr result (λ fault. Explains fault (parts_refusal 1 (map plain_part parts.now))) }
 {
-    let first = judge_part(alloc, first, 1)?;
-    let rest = judge_part(alloc, rest, 2)?;
     let mut all = Items::new(alloc);
-    all.push(first)?;
-    all.push(rest)?;
+    for (k, part) in parts.iter().enumerate() {
+        let kinds = judge_part(alloc, part, k as u8 + 1)?;
+        all.push(kinds)?;
+    }
     Ok(all)
 }
 
 /// Judges a divided declaration.
-fn judge_two(
-    alloc: Global,
-    head: &Head,
-    first: &Part,
-    rest: &Part,
-) -> Result<Items<Kinds>, JudgeFault>
+fn judge_divided(alloc: Global, head: &Head, parts: &[Part]) -> Result<Items<Kinds>, JudgeFault>
     requires head { length head.now.queries ≤ 16 }
-    requires first { IsShort (plain_part first.now) }
-    requires rest { IsShort (plain_part rest.now) }
-    ensures kinds { IfOk result (λ kinds. kinds ≡ kinds_of (plain_part first.now) ∷ kinds_of (plain_part rest.now) ∷ []) }
-    ensures accepted { OnOk result (first_refusal (plain_body (Body.Two head.now first.now rest.now)) ≡ None) }
-    ensures refused { IfErr result (λ fault. Explains fault (first_refusal (plain_body (Body.Two head.now first.now rest.now)))) }
+    requires conds { length head.now.conds ≤ 3 }
+    requires few { length parts.now ≤ 4 }
+    requires short { AreShort (map plain_part parts.now) }
+    ensures kinds { IfOk result (λ kinds. kinds ≡ map kinds_of (map plain_part parts.now)) }
+    ensures accepted { OnOk result (first_refusal (plain_body (Body.Split head.now parts.now)) ≡ None) }
+    ensures refused { IfErr result (λ fault. Explains fault (first_refusal (plain_body (Body.Split head.now parts.now)))) }
 {
     refuse(head_refusal(head))?;
-    judge_parts(alloc, first, rest)
+    judge_parts(alloc, parts)
 }
 
 /// The kinds of all levels of a declaration, if it breaks no rule.
@@ -104,7 +101,7 @@ fn judge_body(alloc: Global, body: &Body) -> Result<Items<Kinds>, JudgeFault>
 {
     match body {
         Body::One(part) => judge_one(alloc, part),
-        Body::Two { head, first, rest } => judge_two(alloc, head, first, rest),
+        Body::Split { head, parts } => judge_divided(alloc, head, parts.as_slice()),
     }
 }
 
@@ -140,17 +137,29 @@ pub fn judge(alloc: Global, decl: Decl) -> Result<Format, JudgeFault>
     Ok(Format { decl, kinds, plans })
 }
 
+/// How many buffers these parts have, whose levels have these kinds.
+fn count_parts(parts: &[Part], kinds: &[Kinds]) -> usize
+    requires kinds { kinds.now ≡ map kinds_of (map plain_part parts.now) }
+    requires few { length parts.now ≤ 4 }
+    requires short { AreShort (map plain_part parts.now) }
+    ensures { result ≡ sum_by buffer_count (map plain_part parts.now) }
+{
+    let mut count = 0;
+    for (k, part) in parts.iter().enumerate() {
+        count += buffer_count(part, kinds[k].as_slice());
+    }
+    count
+}
+
 /// How many buffers the parts of a body have, whose levels have these kinds.
 fn count_all(body: &Body, kinds: &[Kinds]) -> usize
     requires kinds { kinds.now ≡ map kinds_of (plain_body body.now).parts }
-    requires short { AreShort (plain_body body.now).parts }
+    requires short { IsShortDeclaration (plain_body body.now) }
     ensures { result ≡ total_count (plain_body body.now) }
 {
     match body {
         Body::One(part) => buffer_count(part, kinds[0].as_slice()),
-        Body::Two { first, rest, .. } => {
-            buffer_count(first, kinds[0].as_slice()) + buffer_count(rest, kinds[1].as_slice())
-        }
+        Body::Split { parts, .. } => count_parts(parts.as_slice(), kinds),
     }
 }
 
@@ -162,7 +171,7 @@ fn part_of(body: &Body, part: usize) -> &Part
 {
     match body {
         Body::One(one) => one,
-        Body::Two { first, rest, .. } => { if part == 1 { first } else { rest } }
+        Body::Split { parts, .. } => &parts.as_slice()[part - 1],
     }
 }
 
@@ -176,7 +185,7 @@ impl Format {
         &self.decl
     }
 
-    /// How many parts there are: one, or two of a divided declaration. They are counted from 1.
+    /// How many parts there are: one, or two to four of a divided declaration. They are counted from 1.
     pub fn parts(&self) -> usize
         ensures { result ≡ length (declaration_of self.now).parts }
     {
@@ -192,6 +201,15 @@ impl Format {
         ensures accepted { first_refusal (declaration_of self.now) ≡ None }
     {
         part_of(&self.decl().body, part)
+    }
+
+    /// The first part. Each format has one.
+    pub fn first_part(&self) -> &Part
+        ensures is { plain_part result.now ≡ part_at (declaration_of self.now) 0 }
+        ensures valid { IsValid self.now }
+        ensures accepted { first_refusal (declaration_of self.now) ≡ None }
+    {
+        part_of(&self.decl().body, 1)
     }
 
     /// How many levels a part has, the parts being counted from 1.

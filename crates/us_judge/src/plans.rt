@@ -1,5 +1,5 @@
 //! The plans by which parts recover the indices of their entries.
-ghost use Rattle.std.specs.Prelude.{◌≡◌, [], ◌∷◌, ◌++◌, map, All, IfOk, OnOk};
+ghost use Rattle.std.specs.Prelude.{◌≡◌, [], ◌∷◌, map, All, IfOk};
 ghost use Rattle.us_judge.specs.Plans.{IsPlannable, plan_for};
 ghost use Rattle.us_judge.specs.Views.{plain_part, plain_body};
 
@@ -20,11 +20,26 @@ fn plan_part(alloc: Global, part: &Part) -> Result<RecoveryPlan, AllocError>
     }
 }
 
-fn push_plan(alloc: Global, plans: &mut Items<RecoveryPlan>, part: &Part) -> Result<(), AllocError>
+/// The plan of an undivided declaration.
+fn plan_one(alloc: Global, part: &Part) -> Result<Items<RecoveryPlan>, AllocError>
     requires { IsPlannable (plain_part part.now) }
-    ensures { OnOk result (plans.new ≡ plans.old ++ plan_for (plain_part part.now) ∷ []) }
+    ensures { IfOk result (λ plans. plans ≡ plan_for (plain_part part.now) ∷ []) }
 {
-    plans.push(plan_part(alloc, part)?)
+    let mut plans = Items::new(alloc);
+    plans.push(plan_part(alloc, part)?)?;
+    Ok(plans)
+}
+
+/// The plans of the parts of a divided declaration.
+fn plan_parts(alloc: Global, parts: &[Part]) -> Result<Items<RecoveryPlan>, AllocError>
+    requires { All IsPlannable (map plain_part parts.now) }
+    ensures { IfOk result (λ plans. plans ≡ map plan_for (map plain_part parts.now)) }
+{
+    let mut plans = Items::new(alloc);
+    for part in parts {
+        plans.push(plan_part(alloc, part)?)?;
+    }
+    Ok(plans)
 }
 
 /// The plans of all parts.
@@ -32,15 +47,10 @@ pub fn plans_of(alloc: Global, body: &Body) -> Result<Items<RecoveryPlan>, Alloc
     requires { All IsPlannable (plain_body body.now).parts }
     ensures { IfOk result (λ plans. plans ≡ map plan_for (plain_body body.now).parts) }
 {
-    let mut plans = Items::new(alloc);
     match body {
-        Body::One(part) => push_plan(alloc, &mut plans, part)?,
-        Body::Two { first, rest, .. } => {
-            push_plan(alloc, &mut plans, first)?;
-            push_plan(alloc, &mut plans, rest)?;
-        }
+        Body::One(part) => plan_one(alloc, part),
+        Body::Split { parts, .. } => plan_parts(alloc, parts.as_slice()),
     }
-    Ok(plans)
 }
 
 /// The same plans.

@@ -1,2 +1,4 @@
 pub mod Interleaved
 pub mod Arranged
+pub mod Shared
+pub mod Dividing

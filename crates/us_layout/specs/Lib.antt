@@ -1,2 +1,3 @@
 pub mod Interleaving
 pub mod Arranging
+pub mod Splitting

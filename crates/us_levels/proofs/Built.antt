@@ -5,6 +5,7 @@ use Rattle.std.specs.List.{list_any}
 use Rattle.std.proofs.lemmas.List.{length-map}
 use Rattle.std.proofs.lemmas.List.Elements.{All-nil, All-cons}
 use Rattle.us_expr.specs.declared.expression.Expr.{Expr}
+use Rattle.us_expr.specs.declared.queries.Query.{Query as QueryCode}
 use Rattle.us_matrix.specs.declared.matrix.Triple.{Triple}
 use Rattle.us_matrix.specs.Map.{Map, IsMatrix}
 use Rattle.us_matrix.specs.declared.shape.Shape as code
@@ -29,9 +30,10 @@ use Rattle.us_judge.specs.Format.{part_at}
 use Rattle.us_judge.specs.Kinds.{kinds_of}
 use Rattle.us_judge.specs.Views.{declaration_of, column_of, plain_part}
 use Rattle.us_judge.proofs.LawfulDeclarations.{accepted-declaration}
-use Rattle.us_build.specs.Pieces.{IsPlain, IsBuildable, piece_size}
+use Rattle.us_variables.specs.declared.variables.Variables.{Variables}
+use Rattle.us_build.specs.Pieces.{IsPartOf, IsBuildable, piece_size}
 use Rattle.us_layout.specs.Arranging.{PacksHaveOneLength}
-use Rattle.us_levels.proofs.OnePart.{packs-alike, IsOnly, only, buildable, plain-of, size-is, buffers-are, entries-within}
+use Rattle.us_levels.proofs.OnePart.{AreTheirs, packs-alike, IsOnly, only, buildable, plain-of, size-is, buffers-are, entries-within}
 
 -- without packs each piece keeps its buffer
 without-packs : (p : Part) (bs : List Buffer) → p.packs ≡ [] → length bs ≡ length (pieces p) → packed p bs ≡ bs
@@ -75,15 +77,21 @@ module _ (x : Declared) (part : held.Part) (m : Map) (k : IsCase x part m) where
   pub too-many : limit < length m.entries → limit < size (shape_in m) (declaration_of x) (entries_in m)
   too-many h = omega (arith, h, entries-within (shape_in m) the_part (entries_in m) it.lawful is-matrix, size-of-it, length-map m.entries plain_entry)
 
-  module _ (levels : List Expr) (kinds : List Kind) (shape : code.Shape) (entries : List Triple) (ls : levels ≡ part.levels) (ks : kinds ≡ kinds_of the_part)
-      (sides : (shape.rows ≡ m.rows) × (shape.cols ≡ m.cols)) (es : entries ≡ m.entries) where
-    pub can-be-built : length m.entries ≤ limit → IsBuildable levels kinds shape entries
-    can-be-built few =
-        subst (λ (l : List Expr). IsBuildable l kinds shape entries) (sym ls)
-        (subst (λ (e : List Triple). IsBuildable part.levels kinds shape e) (sym es) (buildable x part kinds shape m it part-there ks sides.0 sides.1 k.matrix few))
+  pub no-queries : (plain_part part).queries ≡ []
+  no-queries = ap (λ (p : Part). p.queries) part-there ∙ it.queries
 
-    pub is-plain : IsPlain the_part levels kinds
-    is-plain = subst (λ (l : List Expr). IsPlain the_part l kinds) (sym ls) (plain-of x part kinds it part-there ks)
+  module _ (levels : List Expr) (kinds : List Kind) (queries : List QueryCode) (t : Variables) (shape : code.Shape) (entries : List Triple) (ls : levels ≡ part.levels) (ks : kinds ≡ kinds_of the_part)
+      (qs : queries ≡ part.queries) (vs : AreTheirs part m t) (sides : (shape.rows ≡ m.rows) × (shape.cols ≡ m.cols)) (es : entries ≡ m.entries) where
+    pub can-be-built : length m.entries ≤ limit → IsBuildable levels kinds queries t shape entries
+    can-be-built few =
+        subst (λ (l : List Expr). IsBuildable l kinds queries t shape entries) (sym ls)
+        (subst (λ (e : List Triple). IsBuildable part.levels kinds queries t shape e) (sym es)
+        (subst (λ (q : List QueryCode). IsBuildable part.levels kinds q t shape m.entries) (sym qs) (buildable x part kinds t shape m k.valid it part-there ks vs sides.0 sides.1 k.matrix few)))
+
+    pub is-plain : IsPartOf the_part levels kinds queries t
+    is-plain =
+        subst (λ (l : List Expr). IsPartOf the_part l kinds queries t) (sym ls)
+        (subst (λ (q : List QueryCode). IsPartOf the_part part.levels kinds q t) (sym qs) (plain-of x part kinds m t part-there ks vs))
 
     same-shape : plain_shape shape ≡ shape_in m
     same-shape = ap₂ (λ (a b : ℕ). of a b) sides.0 sides.1

@@ -8,16 +8,15 @@ use Rattle.std.proofs.lemmas.List as lists
 use Rattle.std.proofs.lemmas.List.FromFn.{length-map-range_with_len}
 use Rattle.std.proofs.lemmas.List.Sums.{sum_by-cons, sum_by-append}
 use Rattle.us_expr.specs.declared.queries.Cond.{Cond}
-use Rattle.us_expr.specs.declared.expression.Expr.{Expr}
-use Rattle.us_expr.specs.Tree.{Tree, RowIndex, tree, node_count}
-use Rattle.us_expr.specs.Value.{IsWithin}
+use Rattle.us_expr.specs.declared.queries.Query.{Query as QueryCode}
+use Rattle.us_expr.specs.Tree.{Tree, tree, node_count}
 use Rattle.us_matrix.specs.Map.{Map, IsMatrix, IsSide}
 use Rattle.us_matrix.specs.declared.shape.Shape as code
 use Rattle.us_format.specs.declared.Kind.{Kind}
 use Rattle.us_format.specs.Lists.{nth, head}
 use Rattle.us_format.specs.Matrix.{Shape, Entry, IsMatrixOf, earlier}
-use Rattle.us_format.specs.Program.{plain_entries}
-use Rattle.us_format.specs.Declaration.{Part, Declaration, Query, Column, has_extent, has_table}
+use Rattle.us_format.specs.Program.{entries_in, plain_entries, plain_shape, shape_in}
+use Rattle.us_format.specs.Declaration.{Part, Declaration, Query, Column, has_extent, has_table, query_of}
 use Rattle.us_format.specs.Kinds.{Level, levels_of}
 use Rattle.us_format.specs.Packs.{Buffer, written, packed, pieces, CellsOf, nothing, buffer_of}
 use Rattle.us_format.specs.Positions.{Row, count_below, down, rows_of}
@@ -47,8 +46,10 @@ use Rattle.us_judge.specs.Format.{part_at}
 use Rattle.us_judge.specs.Kinds.{kinds_of}
 use Rattle.us_judge.specs.Views.{declaration_of, plain_part}
 use Rattle.us_judge.proofs.LawfulDeclarations.{HasPlainLevels, accepted-one, accepted-levels, accepted-lawful, accepted-packs}
-use Rattle.us_build.specs.Levels.{IsSimple}
-use Rattle.us_build.specs.Pieces.{IsPlain, IsBuildable, piece_size}
+use Rattle.us_build.specs.Pieces.{IsPartOf, IsBuildable, piece_size}
+use Rattle.us_variables.specs.Counted.{AreVariables}
+use Rattle.us_variables.specs.declared.variables.Variables.{Variables}
+use Rattle.us_climb.proofs.FewNames.{names-few}
 use Rattle.us_layout.specs.Arranging.{PacksHaveOneLength, list_of}
 use Rattle.us_layout.specs.Interleaving.{HaveOneLength}
 use Rattle.us_layout.proofs.Arranged.{written-buffer_of, same-everywhere}
@@ -66,7 +67,7 @@ pub record IsOnly (d : Declaration) (p : Part) : Type 0 where
 
 pub only : (x : Declared) → IsValid x → first_refusal (declaration_of x) ≡ None → IsOnly (declaration_of x) (part_at (declaration_of x) 0)
 only x v e =
-    let one = accepted-one x e in
+    let one = accepted-one x v e in
     let d : Declaration = declaration_of x in
     let is : part_at d 0 ≡ one.0 = ap (λ (ps : List Part). slice_index_or ps 0 (record { names = 0; queries = []; levels = []; trim = []; merge = []; packs = [] })) one.1 in
     let there : 0 < length d.parts = rw one.1 (omega arith) in
@@ -180,36 +181,45 @@ packs-alike s p m packs = Mem-all (λ pack. HaveOneLength (map (λ c. list_of (p
 
 -- ---- what is built
 
-pub plain-of : (x : Declared) (part : held.Part) (kinds : List Kind) → IsOnly (declaration_of x) (part_at (declaration_of x) 0) → plain_part part ≡ part_at (declaration_of x) 0
-    → kinds ≡ kinds_of (part_at (declaration_of x) 0) → IsPlain (part_at (declaration_of x) 0) part.levels kinds
-plain-of x part kinds o is ks = record {
+-- the variables of the part on the matrix
+abbrev pub AreTheirs : held.Part → Map → Variables → Type 0
+AreTheirs part m t = AreVariables (entries_in m) (shape_in m) (map query_of part.queries) (length part.names) t
+
+pub no-query : (qs : List QueryCode) → map query_of qs ≡ [] → length qs ≡ 0
+no-query qs e = sym (length-map qs query_of) ∙ ap length e
+
+pub plain-of : (x : Declared) (part : held.Part) (kinds : List Kind) (m : Map) (t : Variables) → plain_part part ≡ part_at (declaration_of x) 0 → kinds ≡ kinds_of (part_at (declaration_of x) 0) → AreTheirs part m t
+    → IsPartOf (part_at (declaration_of x) 0) part.levels kinds part.queries t
+plain-of x part kinds m t is ks vs = record {
   levels = ap (λ (p : Part). p.levels) (sym is);
-  queries = o.queries;
   kinds = ks;
+  queries = ap (λ (p : Part). p.queries) (sym is);
+  names = ap (λ (p : Part). p.names) (sym is) ∙ sym vs.names;
 }
 
-pub buildable : (x : Declared) (part : held.Part) (kinds : List Kind) (shape : code.Shape) (m : Map) → IsOnly (declaration_of x) (part_at (declaration_of x) 0) → plain_part part ≡ part_at (declaration_of x) 0
-    → kinds ≡ kinds_of (part_at (declaration_of x) 0) → shape.rows ≡ m.rows → shape.cols ≡ m.cols → IsMatrix m → length m.entries ≤ limit → IsBuildable part.levels kinds shape m.entries
-buildable x part kinds shape m o is ks rows cols im few =
+pub buildable : (x : Declared) (part : held.Part) (kinds : List Kind) (t : Variables) (shape : code.Shape) (m : Map) → IsValid x → IsOnly (declaration_of x) (part_at (declaration_of x) 0) → plain_part part ≡ part_at (declaration_of x) 0
+    → kinds ≡ kinds_of (part_at (declaration_of x) 0) → AreTheirs part m t → shape.rows ≡ m.rows → shape.cols ≡ m.cols → IsMatrix m → length m.entries ≤ limit → IsBuildable part.levels kinds part.queries t shape m.entries
+buildable x part kinds t shape m valid o is ks vs rows cols im few =
     let levels : (part_at (declaration_of x) 0).levels ≡ map tree part.levels = ap (λ (p : Part). p.levels) (sym is) in
+    let names : t.names ≡ (part_at (declaration_of x) 0).names = vs.names ∙ ap (λ (p : Part). p.names) is in
+    let none : length part.queries ≡ 0 = no-query part.queries (ap (λ (p : Part). p.queries) is ∙ o.queries) in
+    let s : plain_shape shape ≡ shape_in m = ap₂ (λ (a b : ℕ). sides a b) rows cols in
     record {
       count = omega (arith, o.levels.few, ap length levels, length-map part.levels tree);
-      simple = simple part.levels (subst (λ (es : List Tree). All (λ e. node_count e ≤ 32) es) levels o.levels.small) (subst (λ (es : List Tree). All (IsWithin 0) es) levels o.levels.within);
-      lawful = (part_at (declaration_of x) 0, plain-of x part kinds o is ks, o.lawful);
+      small = λ k d h.
+          subst (λ (e : Tree). node_count e ≤ 32) (lists.get_or-map tree part.levels k d (tree d) h)
+          (subst (λ (es : List Tree). All (λ e. node_count e ≤ 32) es) levels o.levels.small k (tree d) (omega (arith, h, length-map part.levels tree)));
+      names = omega (arith, names, names-few x valid);
+      lawful = (part_at (declaration_of x) 0, plain-of x part kinds m t is ks vs, o.lawful);
+      countable = λ k d h. absurd (omega (arith, h, none));
+      variables =
+          subst (λ (z : Shape). AreVariables (entries_in m) z (map query_of part.queries) t.names t) (sym s)
+          (subst (λ (n : ℕ). AreVariables (entries_in m) (shape_in m) (map query_of part.queries) n t) (sym vs.names) vs);
       rows = subst IsSide (sym rows) im.rows;
       cols = subst IsSide (sym cols) im.cols;
-      matrix = subst (λ (s : Shape). IsMatrixOf s (plain_entries m.entries)) (sym (ap₂ (λ (a b : ℕ). sides a b) rows cols)) (program-matrix m im);
+      matrix = subst (λ (z : Shape). IsMatrixOf z (plain_entries m.entries)) (sym s) (program-matrix m im);
       few = few;
     }
   where
     sides : ℕ → ℕ → Shape
     sides a b = record { rows = a; cols = b }
-
-    simple : (es : List Expr) → All (λ e. node_count e ≤ 32) (map tree es) → All (IsWithin 0) (map tree es) → All (λ e. IsSimple (tree e)) es
-    simple es small within = λ k d h.
-        let lt : k < length (map tree es) = omega (arith, h, length-map es tree) in
-        let at : get_or (map tree es) k RowIndex ≡ tree (get_or es k d) = lists.get_or-map tree es k d RowIndex h in
-        record {
-          small = subst (λ (t : Tree). node_count t ≤ 32) at (small k RowIndex lt);
-          within = subst (λ (t : Tree). IsWithin 0 t) at (within k RowIndex lt);
-        }

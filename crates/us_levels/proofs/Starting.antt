@@ -2,8 +2,8 @@
 use Rattle.std.proofs.Common.{◌≡◌, ℕ, ◌≤◌, ℤ, List, [], ◌∷◌, Some, None, map, length, sym, ap, ap₂, ◌∙◌, subst, arith, All}
 use Rattle.std.proofs.lemmas.List.{length-map}
 use Rattle.us_expr.specs.declared.expression.Expr.{Expr}
+use Rattle.us_expr.specs.declared.queries.Query.{Query as QueryCode}
 use Rattle.us_expr.specs.Tree.{node_count, tree}
-use Rattle.us_expr.specs.Value.{IsWithin}
 use Rattle.us_matrix.specs.Map.{IsMatrix, IsSide, Map}
 use Rattle.us_matrix.specs.declared.matrix.Triple.{Triple}
 use Rattle.us_matrix.specs.declared.shape.Shape as code
@@ -11,7 +11,7 @@ use Rattle.us_decl.specs.Declares.{Declared, IsValid}
 use Rattle.us_decl.specs.declared.decl.Part as held
 use Rattle.us_format.specs.declared.Kind.{Kind}
 use Rattle.us_format.specs.Buffers.{all_buffers, parts_of, piece_buffers}
-use Rattle.us_format.specs.Declaration.{Part}
+use Rattle.us_format.specs.Declaration.{Part, query_of}
 use Rattle.us_format.specs.Matrix.{Entry, IsMatrixOf, Shape}
 use Rattle.us_format.specs.Program.{entries_in, plain_entries, plain_entry, plain_shape, shape_in}
 use Rattle.us_format.specs.Meaning.{meaning}
@@ -26,18 +26,20 @@ use Rattle.us_judge.specs.Views.{declaration_of, plain_part}
 use Rattle.us_judge.proofs.Accepted.{KeepsRules, accepted-keeps}
 use Rattle.us_judge.proofs.LawfulDeclarations.{HasPlainLevels, accepted-lawful, accepted-levels, part-packs, part-queries}
 use Rattle.us_layout.proofs.Arranged.{All-of_map}
-use Rattle.us_build.specs.Levels.{IsSimple}
-use Rattle.us_build.specs.Pieces.{IsBuildable, IsPlain}
+use Rattle.us_variables.specs.Counted.{AreVariables}
+use Rattle.us_variables.specs.declared.variables.Variables.{Variables}
+use Rattle.us_climb.proofs.FewNames.{names-few}
+use Rattle.us_build.specs.Pieces.{IsBuildable, IsPartOf}
 use Rattle.us_build.specs.Ways.{IsStartOf, Way}
-use Rattle.us_levels.specs.Comparable.{IsComparable}
-use Rattle.us_levels.proofs.OnePart.{only as whole}
+use Rattle.us_levels.specs.Comparable.{IsComparable, IsWalkable}
+use Rattle.us_levels.proofs.OnePart.{AreTheirs, no-query, only as whole}
 use Rattle.us_levels.proofs.Numbers.{few-entries, few-positions}
 use Rattle.us_levels.proofs.Walked.{IsCompared, compared-start, one-part}
 
-module _ (part : held.Part) (mx : Map) (bufs : List (List ℤ)) (exprs : List Expr) (kinds : List Kind) (shape : code.Shape) (entries : List Triple) (c : IsComparable (shape_in mx) (plain_part part) (entries_in mx) bufs)
-    (levels : exprs ≡ part.levels) (is : kinds ≡ kinds_of (plain_part part)) (sides : (shape.rows ≡ mx.rows) × (shape.cols ≡ mx.cols)) (all : entries ≡ mx.entries) where
-  pub plain : IsPlain (plain_part part) exprs kinds
-  plain = record { levels = ap (map tree) (sym levels); queries = c.queries; kinds = is }
+module _ (part : held.Part) (mx : Map) (exprs : List Expr) (kinds : List Kind) (queries : List QueryCode) (t : Variables) (shape : code.Shape) (entries : List Triple) (c : IsWalkable (plain_part part) (entries_in mx))
+    (levels : exprs ≡ part.levels) (is : kinds ≡ kinds_of (plain_part part)) (qs : queries ≡ part.queries) (vs : AreTheirs part mx t) (sides : (shape.rows ≡ mx.rows) × (shape.cols ≡ mx.cols)) (all : entries ≡ mx.entries) where
+  pub plain : IsPartOf (plain_part part) exprs kinds queries t
+  plain = record { levels = ap (map tree) (sym levels); kinds = is; queries = ap (map query_of) (sym qs); names = sym vs.names }
 
   pub shape-is : plain_shape shape ≡ shape_in mx
   shape-is = ap₂ (λ (r k : ℕ). made r k) sides.0 sides.1
@@ -48,13 +50,18 @@ module _ (part : held.Part) (mx : Map) (bufs : List (List ℤ)) (exprs : List Ex
   pub entries-are : plain_entries entries ≡ entries_in mx
   entries-are = ap plain_entries all
 
-  pub buildable : IsMatrix mx → IsBuildable exprs kinds shape entries
+  pub buildable : IsMatrix mx → IsBuildable exprs kinds queries t shape entries
   buildable m = record {
     count = omega (arith, c.few_levels, length-map part.levels tree, ap length levels);
-    simple =
-        subst (λ (es : List Expr). All (λ e. IsSimple (tree e)) es) (sym levels)
-        (λ k d h. record { small = All-of_map (λ e. node_count e ≤ 32) tree part.levels c.small k d h; within = All-of_map (IsWithin 0) tree part.levels c.within k d h });
+    small = subst (λ (es : List Expr). All (λ e. node_count (tree e) ≤ 32) es) (sym levels) (λ k d h. All-of_map (λ e. node_count e ≤ 32) tree part.levels c.small k d h);
+    names = omega (arith, vs.names, c.names);
     lawful = (plain_part part, plain, c.lawful);
+    countable = λ k d h. absurd (omega (arith, h, ap length qs, no-query part.queries c.queries));
+    variables =
+        subst (λ (es : List Entry). AreVariables es (plain_shape shape) (map query_of queries) t.names t) (sym entries-are)
+        (subst (λ (s : Shape). AreVariables (entries_in mx) s (map query_of queries) t.names t) (sym shape-is)
+        (subst (λ (q : List QueryCode). AreVariables (entries_in mx) (shape_in mx) (map query_of q) t.names t) (sym qs)
+        (subst (λ (n : ℕ). AreVariables (entries_in mx) (shape_in mx) (map query_of part.queries) n t) (sym vs.names) vs)));
     rows = subst IsSide (sym sides.0) m.rows;
     cols = subst IsSide (sym sides.1) m.cols;
     matrix =
@@ -63,14 +70,17 @@ module _ (part : held.Part) (mx : Map) (bufs : List (List ℤ)) (exprs : List Ex
     few = omega (arith, c.few, length-map mx.entries plain_entry, ap length all);
   }
 
-  pub started : (w : Way) (lists : List (List ℤ)) → lists ≡ [] → ((p : Part) → IsPlain p exprs kinds → IsStartOf (plain_shape shape) p (plain_entries entries) w)
-      → IsCompared (shape_in mx) (plain_part part) (entries_in mx) bufs w lists
-  started w lists e h =
-      subst (λ (ls : List (List ℤ)). IsCompared (shape_in mx) (plain_part part) (entries_in mx) bufs w ls) (sym e)
-      (compared-start (shape_in mx) (plain_part part) (entries_in mx) bufs w c.queries
-      (subst (λ (s : Shape). IsStartOf s (plain_part part) (entries_in mx) w) shape-is
-      (subst (λ (es : List Entry). IsStartOf (plain_shape shape) (plain_part part) es w) entries-are (h (plain_part part) plain)))
-      c.counts)
+  pub begun : (w : Way) → ((p : Part) → IsPartOf p exprs kinds queries t → IsStartOf (plain_shape shape) p (plain_entries entries) w) → IsStartOf (shape_in mx) (plain_part part) (entries_in mx) w
+  begun w h =
+      subst (λ (s : Shape). IsStartOf s (plain_part part) (entries_in mx) w) shape-is
+      (subst (λ (es : List Entry). IsStartOf (plain_shape shape) (plain_part part) es w) entries-are (h (plain_part part) plain))
+
+module _ (s : Shape) (p : Part) (m : List Entry) (bufs : List (List ℤ)) (c : IsComparable s p m bufs) where
+  pub walkable : IsWalkable p m
+  walkable = record { queries = c.queries; names = c.names; few_levels = c.few_levels; small = c.small; lawful = c.lawful; few = c.few }
+
+  pub started : (w : Way) (lists : List (List ℤ)) → lists ≡ [] → IsStartOf s p m w → IsCompared s p m bufs w lists
+  started w lists e h = subst (λ (ls : List (List ℤ)). IsCompared s p m bufs w ls) (sym e) (compared-start s p m bufs w c.queries h c.counts)
 
 -- ---- an accepted declaration
 
@@ -92,9 +102,9 @@ module _ (d : Declared) (part : held.Part) (valid : IsValid d) (accepted : first
   comparable s m bufs small means = record {
     kept = kept;
     queries = part-queries (plain_part part) kept;
+    names = subst (λ (q : Part). q.names ≤ 32) (sym is) (names-few d valid);
     few_levels = plain-levels.few;
     small = plain-levels.small;
-    within = plain-levels.within;
     lawful = subst (λ (ps : List Part). All IsLawful ps) only (accepted-lawful d valid accepted) 0 (plain_part part) (omega arith);
     packs = part-packs (plain_part part) kept;
     counts = few-positions s (declaration_of d) m bufs (plain_part part) only small;

@@ -7,6 +7,7 @@ ghost use Rattle.us_format.specs.Reading.{limit};
 ghost use Rattle.us_build.specs.declared.fault.BuildFault.TheVariants.{TooLarge};
 ghost use Rattle.us_judge.specs.Views.{declaration_of};
 
+use crate::counting::variables_of;
 use std::alloc::{AllocError, Global};
 use us_build::{BuildFault, LIMIT, build_pieces, size_of_pieces};
 use us_judge::Format;
@@ -18,16 +19,21 @@ use us_matrix::{Buffers, Matrix};
 pub fn size_of(alloc: Global, format: &Format, matrix: &Matrix) -> Result<u64, AllocError>
     ensures { IfOk result (λ n. n ≡ min (size (shape_in matrix.now) (declaration_of format.now) (entries_in matrix.now)) (limit + 1)) }
 {
-    let part = format.part(1);
+    let part = format.first_part();
     let entries = matrix.entries();
     if entries.len() as u64 > LIMIT {
         return Ok(LIMIT + 1);
     }
     let kinds = format.kinds(1);
+    let levels = part.levels.as_slice();
+    let queries = part.queries.as_slice();
+    let variables = variables_of(alloc, part, matrix)?;
     size_of_pieces(
         alloc,
-        part.levels.as_slice(),
+        levels,
         kinds,
+        queries,
+        &variables,
         matrix.shape(),
         entries,
     )
@@ -41,14 +47,24 @@ pub fn build_plain(alloc: Global, format: &Format, matrix: &Matrix) -> Result<Bu
     ensures small { OnOk result (size (shape_in matrix.now) (declaration_of format.now) (entries_in matrix.now) ≤ limit) }
     ensures large { IsErrOf result TooLarge → limit < size (shape_in matrix.now) (declaration_of format.now) (entries_in matrix.now) }
 {
-    let part = format.part(1);
+    let part = format.first_part();
     let entries = matrix.entries();
     if entries.len() as u64 > LIMIT {
         return Err(BuildFault::TooLarge);
     }
     let kinds = format.kinds(1);
     let levels = part.levels.as_slice();
-    let pieces = build_pieces(alloc, levels, kinds, matrix.shape(), entries)?;
+    let queries = part.queries.as_slice();
+    let variables = variables_of(alloc, part, matrix)?;
+    let pieces = build_pieces(
+        alloc,
+        levels,
+        kinds,
+        queries,
+        &variables,
+        matrix.shape(),
+        entries,
+    )?;
     if part.packs.is_empty() {
         return Ok(pieces);
     }

@@ -5,10 +5,12 @@ ghost use Rattle.us_format.specs.Meaning.{meaning};
 ghost use Rattle.us_format.specs.Reading.{limit, fits, size_in};
 ghost use Rattle.us_judge.specs.Kinds.{kinds_of};
 ghost use Rattle.us_judge.specs.Views.{declaration_of, plain_part};
-ghost use Rattle.us_levels.specs.Comparable.{IsComparable};
+ghost use Rattle.us_build.specs.Ways.{IsStartOf};
+ghost use Rattle.us_levels.specs.Comparable.{IsComparable, IsWalkable};
 ghost use Rattle.us_levels.specs.Differences.{difference_of, part_difference};
 
 use crate::comparing::{own_difference, pack_difference};
+use crate::counting::variables_of;
 use std::alloc::{AllocError, Global};
 use us_build::Walk;
 use us_decl::Part;
@@ -34,6 +36,26 @@ pub enum Difference {
     },
 }
 
+/// The walk down the levels of a part. Fails only where memory is wanting.
+fn walk_of(alloc: Global, part: &Part, kinds: &[Kind], matrix: &Matrix) -> Result<Walk, AllocError>
+    requires kinds { kinds.now ≡ kinds_of (plain_part part.now) }
+    requires walkable { IsWalkable (plain_part part.now) (entries_in matrix.now) }
+    ensures { IfOk result (IsStartOf (shape_in matrix.now) (plain_part part.now) (entries_in matrix.now)) }
+{
+    let levels = part.levels.as_slice();
+    let queries = part.queries.as_slice();
+    let variables = variables_of(alloc, part, matrix)?;
+    Walk::start(
+        alloc,
+        levels,
+        kinds,
+        queries,
+        &variables,
+        matrix.shape(),
+        matrix.entries(),
+    )
+}
+
 /// The first difference of buffers from those of a part: it goes down level by level, and compares each list as soon as
 /// it is made. So a list is made only where the buffers in front of it are as they should be.
 fn part_difference(
@@ -48,8 +70,7 @@ fn part_difference(
     ensures { IfOk result (λ d. d ≡ part_difference (shape_in matrix.now) (plain_part part.now) (entries_in matrix.now) buffers.now) }
 {
     let names = pieces_of(alloc, kinds)?;
-    let levels = part.levels.as_slice();
-    let mut walk = Walk::start(alloc, levels, kinds, matrix.shape(), matrix.entries())?;
+    let mut walk = walk_of(alloc, part, kinds, matrix)?;
     let mut lists = Buffers::new(alloc);
     while !walk.is_done() {
         // The buffers so far agree, so their numbers of positions are the true ones, and within the limit.
@@ -86,5 +107,5 @@ pub fn differs(
     ensures { IfOk result (λ d. d ≡ difference_of (shape_in matrix.now) (declaration_of format.now) (entries_in matrix.now) buffers.now) }
 {
     // an accepted format has one part as yet
-    part_difference(alloc, format.part(1), format.kinds(1), matrix, buffers)
+    part_difference(alloc, format.first_part(), format.kinds(1), matrix, buffers)
 }

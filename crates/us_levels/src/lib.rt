@@ -6,6 +6,7 @@
 
 mod building;
 mod comparing;
+mod counting;
 mod differing;
 
 pub use building::{build_plain, size_of};

@@ -8,8 +8,8 @@ use Rattle.us_decl.specs.Token.{Token, Fixed, Name, Number, same}
 use Rattle.us_decl.specs.declared.mark.Mark.{Mark}
 use Rattle.us_decl.specs.declared.mark.Mark.TheVariants as mark
 use Rattle.us_decl.specs.declared.column.Column.{Column}
-use Rattle.us_decl.specs.Grammar.{Comma, Run, Empty, Then, Expr, Term, Query, Lanes, Part, Split, alone, expr_tokens, term_tokens, comma_tokens, queries_tokens, map_tokens, number_tokens, numbers_tokens}
-use Rattle.us_parse.specs.Piece.{Before, BehindName, BehindHead, BehindFirst, OneVariable, TwoVariables, Use, Argument, Mapped, Hole, Begin, AfterPlus, AfterMinus, Piece, AtFormat, AtName, AtBrace, Between, AtVariable, AfterVariable, AtWord, AtSlot, AtEqual, AtSchedule, AtArgument, Operand, Divisor, After, AtInto, AtLanes, AtMap, AtLevels, Tail, AtTrim, AtMerge, AtPack, AtColumn, AfterColumn, AtWhen, AtCondition, AtSign, AtBound, AtFirst, AtRest, AtSecond, AtEnd, Done, hole_tokens, so_far, before_tokens, front, spelled, expect, a_name, a_number, one_more, between, after_variable, a_word, filled, operand, divisor, closed, parted, after, at_levels, finished, more_numbers, a_trim, a_merge, tail, trimmed, merged, a_column, after_column, a_sign, head_of, step}
+use Rattle.us_decl.specs.Grammar.{Comma, Run, Empty, Then, Expr, Term, Query, Lanes, Part, Block, Head, Split, alone, expr_tokens, term_tokens, comma_tokens, queries_tokens, map_tokens, number_tokens, numbers_tokens, braced, condition_tokens, blocks_tokens}
+use Rattle.us_parse.specs.Piece.{Before, BehindName, BehindHead, BehindBlocks, OneVariable, TwoVariables, Use, Argument, Mapped, Hole, Begin, AfterPlus, AfterMinus, Piece, AtFormat, AtName, AtBrace, Between, AtVariable, AfterVariable, AtWord, AtSlot, AtEqual, AtSchedule, AtArgument, Operand, Divisor, After, AtInto, AtLanes, AtMap, AtLevels, Tail, AtTrim, AtMerge, AtPack, AtColumn, AfterColumn, AtWhen, AtCondition, AtSign, AtBound, AtPart, AtRest, AtLast, AtEnd, Done, hole_tokens, so_far, before_tokens, named, front, spelled, expect, a_name, a_number, one_more, between, after_variable, a_word, filled, operand, divisor, closed, parted, after, at_levels, finished, more_numbers, a_trim, a_merge, tail, trimmed, merged, a_column, after_column, a_sign, head_of, at_rest, step}
 
 -- the next piece spells one token more
 abbrev pub Adds : Piece → Token → Option Piece → Type 0
@@ -51,7 +51,7 @@ adds_between b qs (Fixed mark.Let) = refl
 adds_between b qs (Fixed mark.Map) = refl
 adds_between (BehindName n) qs (Fixed mark.Part) = simp append_assoc
 adds_between (BehindHead n h) qs (Fixed mark.Part) = tt
-adds_between (BehindFirst n h p) qs (Fixed mark.Part) = tt
+adds_between (BehindBlocks n h p) qs (Fixed mark.Part) = tt
 adds_between b qs _ = tt
 
 adds_after_variable : (b : Before) (qs : Run Query) (v : List ℕ) (t : Token) → Adds (AfterVariable b qs v) t (after_variable b qs v t)
@@ -155,7 +155,7 @@ adds_merge b qs ls cut None (Then ps p) = tt
 adds_brace : (b : Before) (p : Part) → spelled (finished b p) ≡ spelled (Tail b p) ++ alone (Fixed mark.BraceClose)
 adds_brace (BehindName n) p = simp append_assoc
 adds_brace (BehindHead n h) p = simp append_assoc
-adds_brace (BehindFirst n h q) p = simp append_assoc
+adds_brace (BehindBlocks n h q) p = simp append_assoc
 
 adds_tail : (b : Before) (p : Part) (t : Token) → Adds (Tail b p) t (tail b p t)
 adds_tail b p (Fixed mark.Comma) = adds_numbers b p.queries p.levels p.trim p.merge p.packs
@@ -175,10 +175,18 @@ adds_after_column b p cs (Fixed mark.Comma) = simp append_assoc
 adds_after_column b p cs (Fixed mark.Close) = simp append_assoc
 adds_after_column b p cs _ = tt
 
-adds_sign : (n : List ℕ) (qs : Run Query) (v : List ℕ) (t : Token) → Adds (AtSign n qs v) t (a_sign n qs v t)
-adds_sign n qs v (Fixed mark.Less) = simp append_assoc
-adds_sign n qs v (Fixed mark.AtLeast) = simp append_assoc
-adds_sign n qs v _ = tt
+adds_sign : (n : List ℕ) (qs : Run Query) (bs : Run Block) (v : List ℕ) (t : Token) → Adds (AtSign n qs bs v) t (a_sign n qs bs v t)
+adds_sign n qs bs v (Fixed mark.Less) = simp append_assoc
+adds_sign n qs bs v (Fixed mark.AtLeast) = simp append_assoc
+adds_sign n qs bs v _ = tt
+
+next_block : (n q b c r t : List Token) → n ++ (q ++ ((b ++ (c ++ r)) ++ t)) ≡ (n ++ ((q ++ (b ++ c)) ++ r)) ++ t
+next_block n q b c r t = simp append_assoc
+
+adds_rest : (n : List ℕ) (h : Head) (p : Part) (t : Token) → Adds (AtRest n h p) t (at_rest n h p t)
+adds_rest n h p (Fixed mark.Rest) = simp append_assoc
+adds_rest n h p (Fixed mark.Part) = next_block (named n) (queries_tokens h.queries) (blocks_tokens h.blocks) (condition_tokens h.name h.less h.bound) (braced p) (alone (Fixed mark.Part))
+adds_rest n h p _ = tt
 
 pub adds : (s : Piece) (t : Token) → Adds s t (step s t)
 adds AtFormat t = adds_expect mark.Format AtFormat AtName t refl
@@ -205,12 +213,12 @@ adds (AtMerge b qs ls cut ks) t = adds_number (λ k. Tail b (merged qs ls cut (o
 adds (AtPack b p) t = adds_expect mark.Open (AtPack b p) (AtColumn b p None) t (simp append_assoc)
 adds (AtColumn b p cs) t = adds_column b p cs t
 adds (AfterColumn b p cs) t = adds_after_column b p cs t
-adds (AtWhen n qs) t = adds_expect mark.When (AtWhen n qs) (AtCondition n qs) t (simp append_assoc)
-adds (AtCondition n qs) t = adds_name (AtSign n qs) (AtCondition n qs) t (λ w. simp append_assoc)
-adds (AtSign n qs v) t = adds_sign n qs v t
-adds (AtBound n qs v less) t = adds_number (λ k. AtFirst n (head_of qs v less k)) (AtBound n qs v less) t (λ k. simp append_assoc)
-adds (AtFirst n h) t = adds_expect mark.BraceOpen (AtFirst n h) (Between (BehindHead n h) Empty) t (simp (append_assoc, append-nil))
-adds (AtRest n h p) t = adds_expect mark.Rest (AtRest n h p) (AtSecond n h p) t (simp append_assoc)
-adds (AtSecond n h p) t = adds_expect mark.BraceOpen (AtSecond n h p) (Between (BehindFirst n h p) Empty) t (simp (append_assoc, append-nil))
+adds (AtWhen n qs bs) t = adds_expect mark.When (AtWhen n qs bs) (AtCondition n qs bs) t (simp append_assoc)
+adds (AtCondition n qs bs) t = adds_name (AtSign n qs bs) (AtCondition n qs bs) t (λ w. simp append_assoc)
+adds (AtSign n qs bs v) t = adds_sign n qs bs v t
+adds (AtBound n qs bs v less) t = adds_number (λ k. AtPart n (head_of qs bs v less k)) (AtBound n qs bs v less) t (λ k. simp append_assoc)
+adds (AtPart n h) t = adds_expect mark.BraceOpen (AtPart n h) (Between (BehindHead n h) Empty) t (simp (append_assoc, append-nil))
+adds (AtRest n h p) t = adds_rest n h p t
+adds (AtLast n h p) t = adds_expect mark.BraceOpen (AtLast n h p) (Between (BehindBlocks n h p) Empty) t (simp (append_assoc, append-nil))
 adds (AtEnd n h p q) t = adds_expect mark.BraceClose (AtEnd n h p q) (Done (record { name = n; body = Split h p q })) t (simp append_assoc)
 adds (Done d) t = tt

@@ -1,11 +1,12 @@
 -- Each text of the grammar is read, as the text that it is.
 use Rattle.std.proofs.Common.{◌≡◌, ℕ, List, [], ◌∷◌, ◌++◌, Option, Some, None, Bool, true, false, refl, ap, ◌∙◌}
-use Rattle.us_decl.specs.Token.{Token, Fixed, Name, Number}
+use Rattle.us_decl.specs.Token.{Token, Fixed, Number}
 use Rattle.us_decl.specs.declared.mark.Mark.TheVariants as mark
 use Rattle.us_decl.specs.declared.column.Column.{Column}
 use Rattle.us_decl.specs.declared.column.Column.TheVariants.{Level, Val}
-use Rattle.us_decl.specs.Grammar.{Comma, Only, And, Run, Empty, Then, Expr, One, Plus, Less, Term, Just, Over, Rest, Factor, Row, Col, Named, Num, Group, Sum, Enumerate, Reorder, Query, Single, Lanes, Part, Head, Body, Whole, Split, Decl, expr_tokens, term_tokens, factor_tokens, comma_tokens, run_tokens, query_tokens, queries_tokens, levels_tokens, map_tokens, number_tokens, numbers_tokens, column_tokens, pack_tokens, part_tokens, sign_token, head_tokens, braced, body_tokens, decl_tokens}
-use Rattle.us_parse.specs.Piece.{Before, BehindName, BehindHead, BehindFirst, Asked, OneVariable, TwoVariables, Use, Argument, Mapped, Hole, Begin, AfterPlus, AfterMinus, Piece, AtFormat, Between, Operand, After, AtLevels, Tail, AtTrim, AtMerge, AtColumn, AfterColumn, AtFirst, AtRest, AtSecond, AtEnd, Done, one_more, part_of, filled, ended, finished, trimmed, merged, packed, head_of, step}
+use Rattle.us_decl.specs.Grammar.{Comma, Only, And, Run, Empty, Then, Expr, One, Plus, Less, Term, Just, Over, Rest, Factor, Row, Col, Named, Num, Group, Sum, Enumerate, Reorder, Query, Single, Lanes, Part, Block, Head, Body, Whole, Split, Decl, expr_tokens, term_tokens, factor_tokens, comma_tokens, run_tokens, query_tokens, queries_tokens, levels_tokens, map_tokens, number_tokens, numbers_tokens, column_tokens, pack_tokens, part_tokens, braced, condition_tokens, block_tokens, blocks_tokens, head_tokens, body_tokens, decl_tokens}
+use Rattle.us_parse.specs.Piece.{Before, BehindName, BehindHead, BehindBlocks, Asked, OneVariable, TwoVariables, Use, Argument, Mapped, Hole, Begin, AfterPlus, AfterMinus, Piece, AtFormat, Between, Operand, After, AtLevels, Tail, AtTrim, AtMerge, AtColumn, AfterColumn, AtPart, AtRest, AtLast, AtEnd, Done, one_more, part_of, filled, ended, finished, trimmed, merged, packed, head_of, step}
+use Rattle.us_parse.specs.ReadsDecls.{at_block}
 use Rattle.us_parse.proofs.Run.{go_on, run, run_then}
 
 abbrev pub hole_of : Expr → Hole
@@ -141,20 +142,32 @@ reads_part p b =
 reads_braced : (p : Part) (b : Before) (s : Piece) → step s (Fixed mark.BraceOpen) ≡ Some (Between b Empty) → run (braced p) s ≡ Some (finished b p)
 reads_braced p b s e = ap (go_on (run (part_tokens p ++ (Fixed mark.BraceClose ∷ [])))) e ∙ run_then (part_tokens p) _ _ _ _ (reads_part p b) refl
 
-reads_head : (h : Head) (n : List ℕ) → run (head_tokens h) (Between (BehindName n) Empty) ≡ Some (AtFirst n h)
-reads_head h n = run_then (queries_tokens h.queries) _ _ _ _ (reads_queries h.queries (BehindName n)) (reads_condition h.less)
-  where
-    reads_condition : (less : Bool) → run (Fixed mark.Part ∷ Fixed mark.When ∷ Name h.name ∷ sign_token less ∷ Number h.bound ∷ []) (Between (BehindName n) h.queries) ≡ Some (AtFirst n (head_of h.queries h.name less h.bound))
-    reads_condition true = refl
-    reads_condition false = refl
+reads_condition : (n : List ℕ) (qs : Run Query) (bs : Run Block) (v : List ℕ) (less : Bool) (k : ℕ) → run (condition_tokens v less k) (at_block n qs bs) ≡ Some (AtPart n (head_of qs bs v less k))
+reads_condition n qs Empty v true k = refl
+reads_condition n qs Empty v false k = refl
+reads_condition n qs (Then bs b) v true k = refl
+reads_condition n qs (Then bs b) v false k = refl
+
+reads_block : (n : List ℕ) (qs : Run Query) (bs : Run Block) (b : Block) → run (block_tokens b) (at_block n qs bs) ≡ Some (at_block n qs (Then bs b))
+reads_block n qs bs b =
+    let h : Head = head_of qs bs b.name b.less b.bound in
+    run_then (condition_tokens b.name b.less b.bound) (braced b.part) (at_block n qs bs) (AtPart n h) _ (reads_condition n qs bs b.name b.less b.bound) (reads_braced b.part (BehindHead n h) (AtPart n h) refl)
+
+reads_blocks : (bs : Run Block) (n : List ℕ) (qs : Run Query) → run (blocks_tokens bs) (at_block n qs Empty) ≡ Some (at_block n qs bs)
+reads_blocks Empty n qs = refl
+reads_blocks (Then bs b) n qs = run_then (blocks_tokens bs) (block_tokens b) _ _ _ (reads_blocks bs n qs) (reads_block n qs bs b)
+
+reads_head : (h : Head) (n : List ℕ) → run (head_tokens h) (Between (BehindName n) Empty) ≡ Some (AtPart n h)
+reads_head h n = run_then (queries_tokens h.queries) (blocks_tokens h.blocks ++ condition_tokens h.name h.less h.bound) (Between (BehindName n) Empty) (Between (BehindName n) h.queries) _ (reads_queries h.queries (BehindName n))
+    (run_then (blocks_tokens h.blocks) (condition_tokens h.name h.less h.bound) (at_block n h.queries Empty) (at_block n h.queries h.blocks) _ (reads_blocks h.blocks n h.queries) (reads_condition n h.queries h.blocks h.name h.less h.bound))
 
 reads_body : (body : Body) (n : List ℕ) → run (body_tokens body ++ (Fixed mark.BraceClose ∷ [])) (Between (BehindName n) Empty) ≡ Some (Done (record { name = n; body = body }))
 reads_body (Whole p) n = run_then (part_tokens p) _ _ _ _ (reads_part p (BehindName n)) refl
 reads_body (Split h p q) n =
     let split : run (body_tokens (Split h p q)) (Between (BehindName n) Empty) ≡ Some (AtEnd n h p q) =
-    run_then (head_tokens h) (braced p ++ (Fixed mark.Rest ∷ braced q)) (Between (BehindName n) Empty) (AtFirst n h) _ (reads_head h n)
-    (run_then (braced p) (Fixed mark.Rest ∷ braced q) (AtFirst n h) (AtRest n h p) _ (reads_braced p (BehindHead n h) (AtFirst n h) refl)
-    (reads_braced q (BehindFirst n h p) (AtSecond n h p) refl)) in
+    run_then (head_tokens h) (braced p ++ (Fixed mark.Rest ∷ braced q)) (Between (BehindName n) Empty) (AtPart n h) _ (reads_head h n)
+    (run_then (braced p) (Fixed mark.Rest ∷ braced q) (AtPart n h) (AtRest n h p) _ (reads_braced p (BehindHead n h) (AtPart n h) refl)
+    (reads_braced q (BehindBlocks n h p) (AtLast n h p) refl)) in
     run_then (body_tokens (Split h p q)) _ _ _ _ split refl
 
 pub reads_decl : (d : Decl) → run (decl_tokens d) AtFormat ≡ Some (Done d)

@@ -3,8 +3,8 @@ use Rattle.std.proofs.Common.{◌≡◌, ℕ, List, [], ◌∷◌, Option, Some,
 use Rattle.us_decl.specs.Token.{Token, Fixed, Name, Number}
 use Rattle.us_decl.specs.declared.mark.Mark.TheVariants as mark
 use Rattle.us_decl.specs.declared.column.Column.{Column}
-use Rattle.us_decl.specs.Grammar.{Comma, Run, Empty, Expr, Term, Just, Row, Group, Query, Part, Head, Decl}
-use Rattle.us_parse.specs.Piece.{Before, BehindName, BehindHead, BehindFirst, Asked, OneVariable, TwoVariables, Use, Argument, Mapped, Hole, Begin, Piece, AtFormat, AtName, AtBrace, Between, AtVariable, AfterVariable, AtWord, AtSlot, AtEqual, AtSchedule, AtArgument, Operand, Divisor, After, AtInto, AtLanes, AtMap, AtLevels, Tail, AtTrim, AtMerge, AtPack, AtColumn, AfterColumn, AtWhen, AtCondition, AtSign, AtBound, AtFirst, AtRest, AtSecond, AtEnd, Done, part_of, filled, divided, ended, step}
+use Rattle.us_decl.specs.Grammar.{Comma, Run, Empty, Expr, Term, Just, Row, Group, Query, Part, Block, Head, Decl}
+use Rattle.us_parse.specs.Piece.{Before, BehindName, BehindHead, BehindBlocks, Asked, OneVariable, TwoVariables, Use, Argument, Mapped, Hole, Begin, Piece, AtFormat, AtName, AtBrace, Between, AtVariable, AfterVariable, AtWord, AtSlot, AtEqual, AtSchedule, AtArgument, Operand, Divisor, After, AtInto, AtLanes, AtMap, AtLevels, Tail, AtTrim, AtMerge, AtPack, AtColumn, AfterColumn, AtWhen, AtCondition, AtSign, AtBound, AtPart, AtRest, AtLast, AtEnd, Done, part_of, filled, divided, ended, step}
 use Rattle.us_parse.proofs.Run.{go_on, run}
 
 pub record Finishes (s : Piece) : Type 0 where
@@ -21,19 +21,19 @@ done d = record { tokens = []; decl = d; leads = refl }
 f_end : (n : List ℕ) (h : Head) (p q : Part) → Finishes (AtEnd n h p q)
 f_end n h p q = then_token _ _ (Fixed mark.BraceClose) refl (done _)
 
-f_second_tail : (n : List ℕ) (h : Head) (p q : Part) → Finishes (Tail (BehindFirst n h p) q)
-f_second_tail n h p q = then_token _ _ (Fixed mark.BraceClose) refl (f_end n h p q)
+f_last_tail : (n : List ℕ) (h : Head) (p q : Part) → Finishes (Tail (BehindBlocks n h p) q)
+f_last_tail n h p q = then_token _ _ (Fixed mark.BraceClose) refl (f_end n h p q)
 
-f_second : (n : List ℕ) (h : Head) (p : Part) → Finishes (AtSecond n h p)
-f_second n h p = then_token _ (Between (BehindFirst n h p) Empty) (Fixed mark.BraceOpen) refl (then_token _ (AtMap (BehindFirst n h p) Empty) (Fixed mark.Map) refl (then_token _ (AtLevels (BehindFirst n h p) Empty) (Fixed mark.Open) refl (then_token _ (Tail (BehindFirst n h p) (part_of Empty None)) (Fixed mark.Close) refl (f_second_tail n h p _))))
+f_last : (n : List ℕ) (h : Head) (p : Part) → Finishes (AtLast n h p)
+f_last n h p = then_token _ (Between (BehindBlocks n h p) Empty) (Fixed mark.BraceOpen) refl (then_token _ (AtMap (BehindBlocks n h p) Empty) (Fixed mark.Map) refl (then_token _ (AtLevels (BehindBlocks n h p) Empty) (Fixed mark.Open) refl (then_token _ (Tail (BehindBlocks n h p) (part_of Empty None)) (Fixed mark.Close) refl (f_last_tail n h p _))))
 
 f_rest : (n : List ℕ) (h : Head) (p : Part) → Finishes (AtRest n h p)
-f_rest n h p = then_token _ _ (Fixed mark.Rest) refl (f_second n h p)
+f_rest n h p = then_token _ _ (Fixed mark.Rest) refl (f_last n h p)
 
 f_tail : (b : Before) (p : Part) → Finishes (Tail b p)
 f_tail (BehindName n) p = then_token _ _ (Fixed mark.BraceClose) refl (done _)
 f_tail (BehindHead n h) p = then_token _ _ (Fixed mark.BraceClose) refl (f_rest n h p)
-f_tail (BehindFirst n h p) q = f_second_tail n h p q
+f_tail (BehindBlocks n h p) q = f_last_tail n h p q
 
 f_levels : (b : Before) (qs : Run Query) → Finishes (AtLevels b qs)
 f_levels b qs = then_token _ _ (Fixed mark.Close) refl (f_tail b _)
@@ -83,17 +83,17 @@ f_after_column b p cs = then_token _ _ (Fixed mark.Close) refl (f_tail b _)
 f_column : (b : Before) (p : Part) (cs : Option (Comma Column)) → Finishes (AtColumn b p cs)
 f_column b p cs = then_token _ _ (Fixed mark.Val) refl (f_after_column b p _)
 
-f_first : (n : List ℕ) (h : Head) → Finishes (AtFirst n h)
-f_first n h = then_token _ _ (Fixed mark.BraceOpen) refl (f_between (BehindHead n h) Empty)
+f_part : (n : List ℕ) (h : Head) → Finishes (AtPart n h)
+f_part n h = then_token _ _ (Fixed mark.BraceOpen) refl (f_between (BehindHead n h) Empty)
 
-f_bound : (n : List ℕ) (qs : Run Query) (v : List ℕ) (less : Bool) → Finishes (AtBound n qs v less)
-f_bound n qs v less = then_token _ _ (Number 0) refl (f_first n _)
+f_bound : (n : List ℕ) (qs : Run Query) (bs : Run Block) (v : List ℕ) (less : Bool) → Finishes (AtBound n qs bs v less)
+f_bound n qs bs v less = then_token _ _ (Number 0) refl (f_part n _)
 
-f_sign : (n : List ℕ) (qs : Run Query) (v : List ℕ) → Finishes (AtSign n qs v)
-f_sign n qs v = then_token _ _ (Fixed mark.Less) refl (f_bound n qs v true)
+f_sign : (n : List ℕ) (qs : Run Query) (bs : Run Block) (v : List ℕ) → Finishes (AtSign n qs bs v)
+f_sign n qs bs v = then_token _ _ (Fixed mark.Less) refl (f_bound n qs bs v true)
 
-f_condition : (n : List ℕ) (qs : Run Query) → Finishes (AtCondition n qs)
-f_condition n qs = then_token _ _ (Name []) refl (f_sign n qs _)
+f_condition : (n : List ℕ) (qs : Run Query) (bs : Run Block) → Finishes (AtCondition n qs bs)
+f_condition n qs bs = then_token _ _ (Name []) refl (f_sign n qs bs _)
 
 f_brace : (n : List ℕ) → Finishes (AtBrace n)
 f_brace n = then_token _ _ (Fixed mark.BraceOpen) refl (f_between (BehindName n) Empty)
@@ -126,12 +126,12 @@ finishes (AtMerge b qs ls cut ks) = then_token _ _ (Number 0) refl (f_tail b _)
 finishes (AtPack b p) = then_token _ _ (Fixed mark.Open) refl (f_column b p None)
 finishes (AtColumn b p cs) = f_column b p cs
 finishes (AfterColumn b p cs) = f_after_column b p cs
-finishes (AtWhen n qs) = then_token _ _ (Fixed mark.When) refl (f_condition n qs)
-finishes (AtCondition n qs) = f_condition n qs
-finishes (AtSign n qs v) = f_sign n qs v
-finishes (AtBound n qs v less) = f_bound n qs v less
-finishes (AtFirst n h) = f_first n h
+finishes (AtWhen n qs bs) = then_token _ _ (Fixed mark.When) refl (f_condition n qs bs)
+finishes (AtCondition n qs bs) = f_condition n qs bs
+finishes (AtSign n qs bs v) = f_sign n qs bs v
+finishes (AtBound n qs bs v less) = f_bound n qs bs v less
+finishes (AtPart n h) = f_part n h
 finishes (AtRest n h p) = f_rest n h p
-finishes (AtSecond n h p) = f_second n h p
+finishes (AtLast n h p) = f_last n h p
 finishes (AtEnd n h p q) = f_end n h p q
 finishes (Done d) = done d

@@ -36,7 +36,7 @@ use Rattle.us_decl.specs.Token.{Token, Fixed, Name, Number, same}
 use Rattle.us_decl.specs.declared.mark.Mark.TheVariants as mark
 use Rattle.us_decl.specs.declared.column.Column.{Column}
 use Rattle.us_decl.specs.Grammar.{Comma, Only, And, Run, Empty, Then, Expr, Query, Part}
-use Rattle.us_parse.specs.Piece.{Before, BehindName, BehindHead, BehindFirst, Piece, Between, AtMap, AtLevels, Tail, AtTrim, AtMerge, AtPack, a_number, one_more, part_of, more_numbers, a_trim, a_merge, trimmed, merged, step}
+use Rattle.us_parse.specs.Piece.{Before, BehindName, BehindHead, BehindBlocks, Piece, Between, AtMap, AtLevels, Tail, AtTrim, AtMerge, AtPack, a_number, one_more, part_of, more_numbers, a_trim, a_merge, trimmed, merged, step}
 
 -- packs, one after the other
 
@@ -389,7 +389,7 @@ no_between b qs (Fixed mark.Map) x y z = absurd cc
 no_between b qs (Fixed mark.Let) x y z = absurd cc
 no_between (BehindName n) qs (Fixed mark.Part) x y z = absurd cc
 no_between (BehindHead n h) qs (Fixed mark.Part) x y z = refl
-no_between (BehindFirst n h p) qs (Fixed mark.Part) x y z = refl
+no_between (BehindBlocks n h p) qs (Fixed mark.Part) x y z = refl
 no_between b qs _ x y z = refl
 
 pub mapping_no_map : (old : Text Lexeme) (ns : List (List ℕ)) (r : Stop) → is_fixed mark.Let (lead old) ≡ false → (r ≡ refused_at old) × (is_fixed mark.Map (lead old) ≡ false) → AtMapping old ns (λ b qs. Fails old (Between b qs) r)

@@ -5,13 +5,13 @@ use Rattle.us_decl.specs.declared.mark.Mark.{Mark}
 use Rattle.us_decl.specs.declared.mark.Mark.TheVariants as mark
 use Rattle.us_decl.specs.declared.column.Column.{Column}
 use Rattle.us_decl.specs.declared.column.Column.TheVariants.{Level, Val}
-use Rattle.us_decl.specs.Grammar.{Comma, Only, And, Run, Empty, Then, Expr, One, Plus, Less, Term, Just, Over, Rest, Row, Col, Named, Num, Group, Word, Sum, Enumerate, Reorder, Query, Single, Lanes, Part, Head, Whole, Split, Decl, alone, expr_tokens, term_tokens, comma_tokens, word_token, queries_tokens, map_tokens, number_tokens, numbers_tokens, column_tokens, part_tokens, sign_token, head_tokens, braced, decl_tokens}
+use Rattle.us_decl.specs.Grammar.{Comma, Only, And, Run, Empty, Then, Expr, One, Plus, Less, Term, Just, Over, Rest, Row, Col, Named, Num, Group, Word, Sum, Enumerate, Reorder, Query, Single, Lanes, Part, Block, Head, Whole, Split, Decl, blocks_of, alone, expr_tokens, term_tokens, comma_tokens, word_token, queries_tokens, map_tokens, number_tokens, numbers_tokens, column_tokens, part_tokens, sign_token, braced, blocks_tokens, head_tokens, decl_tokens}
 
--- what stands before a part: the name alone, the head too, or the head and the first part
+-- what stands before a part: the name alone, the head too, or the head and the part of its last condition
 pub data Before : Type 0 where
   BehindName : List ℕ → Before
   BehindHead : List ℕ → Head → Before
-  BehindFirst : List ℕ → Head → Part → Before
+  BehindBlocks : List ℕ → Head → Part → Before
 
 -- what stands before the parenthesis of a query
 pub data Asked : Type 0 where
@@ -54,13 +54,13 @@ pub data Piece : Type 0 where
   AtPack : Before → Part → Piece
   AtColumn : Before → Part → Option (Comma Column) → Piece
   AfterColumn : Before → Part → Comma Column → Piece
-  AtWhen : List ℕ → Run Query → Piece
-  AtCondition : List ℕ → Run Query → Piece
-  AtSign : List ℕ → Run Query → List ℕ → Piece
-  AtBound : List ℕ → Run Query → List ℕ → Bool → Piece
-  AtFirst : List ℕ → Head → Piece
-  AtRest : List ℕ → Head → Part → Piece
-  AtSecond : List ℕ → Head → Part → Piece
+  AtWhen : List ℕ → Run Query → Run Block → Piece
+  AtCondition : List ℕ → Run Query → Run Block → Piece
+  AtSign : List ℕ → Run Query → Run Block → List ℕ → Piece
+  AtBound : List ℕ → Run Query → Run Block → List ℕ → Bool → Piece
+  AtPart : List ℕ → Head → Piece
+  AtRest : List ℕ → Head → Part → Piece  -- or one more condition
+  AtLast : List ℕ → Head → Part → Piece
   AtEnd : List ℕ → Head → Part → Part → Piece
   Done : Decl → Piece
 
@@ -86,7 +86,7 @@ named n = Fixed mark.Format ∷ Name n ∷ Fixed mark.BraceOpen ∷ []
 abbrev pub before_tokens : Before → List Token
 before_tokens (BehindName n) = named n
 before_tokens (BehindHead n h) = named n ++ (head_tokens h ++ alone (Fixed mark.BraceOpen))
-before_tokens (BehindFirst n h p) = named n ++ (head_tokens h ++ (braced p ++ (Fixed mark.Rest ∷ Fixed mark.BraceOpen ∷ [])))
+before_tokens (BehindBlocks n h p) = named n ++ (head_tokens h ++ (braced p ++ (Fixed mark.Rest ∷ Fixed mark.BraceOpen ∷ [])))
 
 abbrev pub asked_tokens : Asked → List Token
 asked_tokens (OneVariable q v) = Fixed mark.Let ∷ Name v ∷ Fixed mark.Equal ∷ word_token q ∷ []
@@ -138,13 +138,13 @@ spelled (AtMerge b qs ls cut ks) = front b qs ++ (map_tokens ls ++ (numbers_toke
 spelled (AtPack b p) = before_tokens b ++ (part_tokens p ++ alone (Fixed mark.Pack))
 spelled (AtColumn b p cs) = before_tokens b ++ (part_tokens p ++ (Fixed mark.Pack ∷ Fixed mark.Open ∷ so_far column_tokens cs))
 spelled (AfterColumn b p cs) = before_tokens b ++ (part_tokens p ++ (Fixed mark.Pack ∷ Fixed mark.Open ∷ comma_tokens column_tokens cs))
-spelled (AtWhen n qs) = named n ++ (queries_tokens qs ++ (Fixed mark.Part ∷ []))
-spelled (AtCondition n qs) = named n ++ (queries_tokens qs ++ (Fixed mark.Part ∷ Fixed mark.When ∷ []))
-spelled (AtSign n qs v) = named n ++ (queries_tokens qs ++ (Fixed mark.Part ∷ Fixed mark.When ∷ Name v ∷ []))
-spelled (AtBound n qs v less) = named n ++ (queries_tokens qs ++ (Fixed mark.Part ∷ Fixed mark.When ∷ Name v ∷ sign_token less ∷ []))
-spelled (AtFirst n h) = named n ++ head_tokens h
+spelled (AtWhen n qs bs) = named n ++ (queries_tokens qs ++ (blocks_tokens bs ++ (Fixed mark.Part ∷ [])))
+spelled (AtCondition n qs bs) = named n ++ (queries_tokens qs ++ (blocks_tokens bs ++ (Fixed mark.Part ∷ Fixed mark.When ∷ [])))
+spelled (AtSign n qs bs v) = named n ++ (queries_tokens qs ++ (blocks_tokens bs ++ (Fixed mark.Part ∷ Fixed mark.When ∷ Name v ∷ [])))
+spelled (AtBound n qs bs v less) = named n ++ (queries_tokens qs ++ (blocks_tokens bs ++ (Fixed mark.Part ∷ Fixed mark.When ∷ Name v ∷ sign_token less ∷ [])))
+spelled (AtPart n h) = named n ++ head_tokens h
 spelled (AtRest n h p) = split_tokens n h p
-spelled (AtSecond n h p) = split_tokens n h p ++ alone (Fixed mark.Rest)
+spelled (AtLast n h p) = split_tokens n h p ++ alone (Fixed mark.Rest)
 spelled (AtEnd n h p q) = split_tokens n h p ++ (Fixed mark.Rest ∷ braced q)
 spelled (Done d) = decl_tokens d
 
@@ -172,11 +172,11 @@ one_more (Some xs) x = And xs x
 abbrev pub part_of : Run Query → Option (Comma Expr) → Part
 part_of qs ls = record { queries = qs; levels = ls; trim = None; merge = None; packs = Empty }
 
--- a second part may follow where the queries stand right behind the name
+-- a condition may follow where the queries stand right behind the name
 abbrev pub headed : Before → Run Query → Option Piece
-headed (BehindName n) qs = Some (AtWhen n qs)
+headed (BehindName n) qs = Some (AtWhen n qs Empty)
 headed (BehindHead n h) qs = None
-headed (BehindFirst n h p) qs = None
+headed (BehindBlocks n h p) qs = None
 
 abbrev pub between : Before → Run Query → Token → Option Piece
 between b qs (Fixed mark.Let) = Some (AtVariable b qs)
@@ -251,7 +251,7 @@ at_levels b qs t = operand (Mapped b qs None) Begin [] t
 abbrev pub finished : Before → Part → Piece
 finished (BehindName n) p = Done (record { name = n; body = Whole p })
 finished (BehindHead n h) p = AtRest n h p
-finished (BehindFirst n h p) q = AtEnd n h p q
+finished (BehindBlocks n h p) q = AtEnd n h p q
 
 -- behind the map, the trim or the merge: a comma continues the numbers that stand last
 abbrev pub more_numbers : Before → Run Query → Option (Comma Expr) → Option (Comma ℕ) → Option (Comma ℕ) → Run (Comma Column) → Option Piece
@@ -298,13 +298,19 @@ after_column b p cs (Fixed mark.Comma) = Some (AtColumn b p (Some cs))
 after_column b p cs (Fixed mark.Close) = Some (Tail b (packed p cs))
 after_column b p cs _ = None
 
-abbrev pub a_sign : List ℕ → Run Query → List ℕ → Token → Option Piece
-a_sign n qs v (Fixed mark.Less) = Some (AtBound n qs v true)
-a_sign n qs v (Fixed mark.AtLeast) = Some (AtBound n qs v false)
-a_sign n qs v _ = None
+abbrev pub a_sign : List ℕ → Run Query → Run Block → List ℕ → Token → Option Piece
+a_sign n qs bs v (Fixed mark.Less) = Some (AtBound n qs bs v true)
+a_sign n qs bs v (Fixed mark.AtLeast) = Some (AtBound n qs bs v false)
+a_sign n qs bs v _ = None
 
-abbrev pub head_of : Run Query → List ℕ → Bool → ℕ → Head
-head_of qs v less k = record { queries = qs; name = v; less = less; bound = k }
+abbrev pub head_of : Run Query → Run Block → List ℕ → Bool → ℕ → Head
+head_of qs bs v less k = record { queries = qs; blocks = bs; name = v; less = less; bound = k }
+
+-- behind the part of a condition
+abbrev pub at_rest : List ℕ → Head → Part → Token → Option Piece
+at_rest n h p (Fixed mark.Rest) = Some (AtLast n h p)
+at_rest n h p (Fixed mark.Part) = Some (AtWhen n h.queries (blocks_of h p))
+at_rest n h p _ = None
 
 abbrev pub step : Piece → Token → Option Piece
 step AtFormat t = expect mark.Format AtName t
@@ -331,12 +337,12 @@ step (AtMerge b qs ls cut ks) t = a_number (λ k. Tail b (merged qs ls cut (one_
 step (AtPack b p) t = expect mark.Open (AtColumn b p None) t
 step (AtColumn b p cs) t = a_column b p cs t
 step (AfterColumn b p cs) t = after_column b p cs t
-step (AtWhen n qs) t = expect mark.When (AtCondition n qs) t
-step (AtCondition n qs) t = a_name (AtSign n qs) t
-step (AtSign n qs v) t = a_sign n qs v t
-step (AtBound n qs v less) t = a_number (λ k. AtFirst n (head_of qs v less k)) t
-step (AtFirst n h) t = expect mark.BraceOpen (Between (BehindHead n h) Empty) t
-step (AtRest n h p) t = expect mark.Rest (AtSecond n h p) t
-step (AtSecond n h p) t = expect mark.BraceOpen (Between (BehindFirst n h p) Empty) t
+step (AtWhen n qs bs) t = expect mark.When (AtCondition n qs bs) t
+step (AtCondition n qs bs) t = a_name (AtSign n qs bs) t
+step (AtSign n qs bs v) t = a_sign n qs bs v t
+step (AtBound n qs bs v less) t = a_number (λ k. AtPart n (head_of qs bs v less k)) t
+step (AtPart n h) t = expect mark.BraceOpen (Between (BehindHead n h) Empty) t
+step (AtRest n h p) t = at_rest n h p t
+step (AtLast n h p) t = expect mark.BraceOpen (Between (BehindBlocks n h p) Empty) t
 step (AtEnd n h p q) t = expect mark.BraceClose (Done (record { name = n; body = Split h p q })) t
 step (Done d) t = None

@@ -13,7 +13,7 @@ use Rattle.us_parse.specs.declared.stop.Stop.{Stop}
 use Rattle.us_parse.specs.declared.storage.Storage.{Storage}
 use Rattle.us_decl.specs.declared.decl.Part as parts
 use Rattle.us_decl.specs.Grammar.{Comma, Run, Empty, Expr, Query, Part}
-use Rattle.us_parse.specs.Piece.{Before, BehindName, BehindHead, BehindFirst, Between, Tail, part_of}
+use Rattle.us_parse.specs.Piece.{Before, BehindName, BehindHead, BehindBlocks, Between, Tail, part_of}
 use Rattle.us_decl.specs.Names.{names_queries, names_levels, names_part}
 use Rattle.us_decl.specs.Limits.{all_run, count_run, fits_pack, fits_part}
 use Rattle.us_parse.specs.Within.{fits, fits_before}
@@ -68,7 +68,7 @@ ReadsStorage old new (Err r) = (b : Before) (qs : Run Query) (ls : Option (Comma
 abbrev pub divides : Before → Bool
 divides (BehindName n) = true
 divides (BehindHead n h) = false
-divides (BehindFirst n h p) = false
+divides (BehindBlocks n h p) = false
 
 -- behind the queries of a part, where no second part is begun
 abbrev pub AtMapping : Text Lexeme → List (List ℕ) → (Before → Run Query → Type 0) → Type 0

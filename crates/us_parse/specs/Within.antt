@@ -1,15 +1,15 @@
 -- The limits of what has been read so far.
 use Rattle.std.specs.Prelude.{ℕ, ◌+◌, List, [], ◌∷◌, length, Bool, true, cond, ltb, ◌&&◌, Option, Some, None}
-use Rattle.us_decl.specs.Grammar.{Comma, Run, Query, Expr, Term, Part}
+use Rattle.us_decl.specs.Grammar.{Comma, Run, Query, Expr, Term, Part, Block}
 use Rattle.us_decl.specs.declared.column.Column.{Column}
-use Rattle.us_decl.specs.Names.{is_among, with_name, names_queries, names_levels, names_expr, names_term}
-use Rattle.us_decl.specs.Limits.{count_run, count_levels, nodes, nodes_term, all_levels, fits_nodes, fits_list, fits_name, fits_names, fits_expr, fits_term, fits_whole, fits_queries, fits_levels, fits_numbers, fits_pack, fits_part, fits_head, fits_decl}
-use Rattle.us_parse.specs.Piece.{Before, BehindName, BehindHead, BehindFirst, Asked, OneVariable, TwoVariables, Use, Argument, Mapped, Hole, Begin, AfterPlus, AfterMinus, Piece, AtFormat, AtName, AtBrace, Between, AtVariable, AfterVariable, AtWord, AtSlot, AtEqual, AtSchedule, AtArgument, Operand, Divisor, After, AtInto, AtLanes, AtMap, AtLevels, Tail, AtTrim, AtMerge, AtPack, AtColumn, AfterColumn, AtWhen, AtCondition, AtSign, AtBound, AtFirst, AtRest, AtSecond, AtEnd, Done}
+use Rattle.us_decl.specs.Names.{is_among, with_name, names_queries, names_levels, names_blocks, names_expr, names_term}
+use Rattle.us_decl.specs.Limits.{count_run, count_levels, nodes, nodes_term, all_levels, fits_nodes, fits_list, fits_name, fits_names, fits_expr, fits_term, fits_whole, fits_queries, fits_levels, fits_numbers, fits_pack, fits_part, fits_blocks, fits_head, fits_decl}
+use Rattle.us_parse.specs.Piece.{Before, BehindName, BehindHead, BehindBlocks, Asked, OneVariable, TwoVariables, Use, Argument, Mapped, Hole, Begin, AfterPlus, AfterMinus, Piece, AtFormat, AtName, AtBrace, Between, AtVariable, AfterVariable, AtWord, AtSlot, AtEqual, AtSchedule, AtArgument, Operand, Divisor, After, AtInto, AtLanes, AtMap, AtLevels, Tail, AtTrim, AtMerge, AtPack, AtColumn, AfterColumn, AtWhen, AtCondition, AtSign, AtBound, AtPart, AtRest, AtLast, AtEnd, Done}
 
 abbrev pub fits_before : Before → Bool
 fits_before (BehindName n) = fits_name n
 fits_before (BehindHead n h) = fits_name n && fits_head h
-fits_before (BehindFirst n h p) = fits_name n && (fits_head h && fits_part p)
+fits_before (BehindBlocks n h p) = fits_name n && (fits_head h && fits_part p)
 
 -- a part up to its queries
 abbrev pub fits_front : Before → Run Query → Bool
@@ -98,8 +98,12 @@ fits_columns (Some cs) = fits_pack cs
 abbrev pub fits_packing : Before → Part → Bool
 fits_packing b p = fits_before b && (fits_part p && ltb (count_run p.packs) 16)
 
-abbrev pub fits_condition : List ℕ → Run Query → List ℕ → Bool
-fits_condition n qs v = fits_name n && (fits_queries qs && (fits_name v && fits_names (with_name v (names_queries qs))))
+-- one more condition has begun
+abbrev pub fits_divided : List ℕ → Run Query → Run Block → Bool
+fits_divided n qs bs = fits_name n && (fits_queries qs && fits_blocks qs bs)
+
+abbrev pub fits_condition : List ℕ → Run Query → Run Block → List ℕ → Bool
+fits_condition n qs bs v = fits_name n && (fits_queries qs && (fits_blocks qs bs && (fits_name v && fits_names (with_name v (names_blocks bs (names_queries qs))))))
 
 abbrev pub fits : Piece → Bool
 fits AtFormat = true
@@ -126,13 +130,13 @@ fits (AtMerge b qs ls cut ks) = fits_front b qs && (fits_levels qs ls && (fits_n
 fits (AtPack b p) = fits_packing b p
 fits (AtColumn b p cs) = fits_packing b p && fits_columns cs
 fits (AfterColumn b p cs) = fits_packing b p && fits_pack cs
-fits (AtWhen n qs) = fits_front (BehindName n) qs
-fits (AtCondition n qs) = fits_front (BehindName n) qs
-fits (AtSign n qs v) = fits_condition n qs v
-fits (AtBound n qs v less) = fits_condition n qs v
-fits (AtFirst n h) = fits_name n && fits_head h
+fits (AtWhen n qs bs) = fits_divided n qs bs
+fits (AtCondition n qs bs) = fits_divided n qs bs
+fits (AtSign n qs bs v) = fits_condition n qs bs v
+fits (AtBound n qs bs v less) = fits_condition n qs bs v
+fits (AtPart n h) = fits_name n && fits_head h
 fits (AtRest n h p) = fits_name n && (fits_head h && fits_part p)
-fits (AtSecond n h p) = fits_name n && (fits_head h && fits_part p)
+fits (AtLast n h p) = fits_name n && (fits_head h && fits_part p)
 fits (AtEnd n h p q) = fits_name n && (fits_head h && (fits_part p && fits_part q))
 fits (Done d) = fits_decl d
 

@@ -13,17 +13,17 @@ use Rattle.us_decl.specs.declared.mark.Mark.TheVariants as mark
 use Rattle.us_decl.specs.declared.lexeme.Lexeme.TheVariants as lexeme
 use Rattle.us_decl.specs.declared.column.Column.{Column}
 use Rattle.us_decl.specs.declared.column.Column.TheVariants.{Level, Val}
-use Rattle.us_decl.specs.Grammar.{Comma, Only, And, Run, Empty, Then, Expr, One, Plus, Less, Term, Just, Over, Rest, Factor, Row, Col, Named, Num, Group, Sum, Enumerate, Reorder, Query, Single, Lanes, Part, Head, Body, Whole, Split, Decl, expr_tokens, term_tokens, comma_tokens, run_tokens, query_tokens, queries_tokens, levels_tokens, map_tokens, number_tokens, numbers_tokens, column_tokens, pack_tokens, part_tokens, sign_token, head_tokens, body_tokens}
+use Rattle.us_decl.specs.Grammar.{Comma, Only, And, Run, Empty, Then, Expr, One, Plus, Less, Term, Just, Over, Rest, Factor, Row, Col, Named, Num, Group, Sum, Enumerate, Reorder, Query, Single, Lanes, Part, Block, Head, Body, Whole, Split, Decl, blocks_of, expr_tokens, term_tokens, comma_tokens, run_tokens, query_tokens, queries_tokens, levels_tokens, map_tokens, number_tokens, numbers_tokens, column_tokens, pack_tokens, part_tokens, sign_token, braced, condition_tokens, block_tokens, blocks_tokens, body_tokens}
 use Rattle.us_decl.specs.Words.{language, symbol, keyword, word_lexeme, is_name, is_free, every}
 use Rattle.us_parse.specs.Machine.{reader}
-use Rattle.us_decl.specs.Names.{number_of, names_part, names_head, names_queries, names_levels}
-use Rattle.us_decl.specs.Limits.{all, all_run, nodes, count, count_run, count_levels, all_levels, fits_number, fits_numbers, fits_name, fits_names, fits_nodes, fits_list, fits_expr, fits_term, fits_factor, fits_whole, fits_query, fits_queries, fits_levels, fits_column, fits_pack, fits_packs, fits_part, fits_head, fits_body, fits_decl}
-use Rattle.us_decl.specs.Declares.{tree_expr, tree_term, tree_factor, query_of, comma_items, run_items, maybe_items, part_of, head_of, body_of, declared}
-use Rattle.us_print.specs.Canon.{open_text, comma, name_text, is_sum, parenthesized, expr_text, asked_text, query_text, column_text, indent, line, numbers_line, queries_lines, pack_text, map_text, storage_lines, part_lines, sign_text, condition_text, head_lines, body_lines}
-use Rattle.us_decl.proofs.Deciding.{left_of, right_of, is_below}
-use Rattle.us_print.proofs.Plain.{as_term, plain, plain_term, plain_factor, plain_query, plain_queries, plain_comma, plain_levels, plain_part, plain_head, plain_body}
+use Rattle.us_decl.specs.Names.{number_of, names_part, names_blocks, names_head, names_queries, names_levels}
+use Rattle.us_decl.specs.Limits.{all, all_run, nodes, count, count_run, count_levels, all_levels, fits_number, fits_numbers, fits_name, fits_names, fits_nodes, fits_list, fits_expr, fits_term, fits_factor, fits_whole, fits_query, fits_queries, fits_levels, fits_column, fits_pack, fits_packs, fits_part, fits_block, fits_blocks, fits_head, fits_body, fits_decl}
+use Rattle.us_decl.specs.Declares.{tree_expr, tree_term, tree_factor, query_of, comma_items, run_items, maybe_items, part_of, whole_part, cond_of, parts_of, body_of, DeclaredPart, declared}
+use Rattle.us_print.specs.Canon.{open_text, comma, name_text, is_sum, parenthesized, expr_text, asked_text, query_text, column_text, indent, line, numbers_line, queries_lines, pack_text, map_text, storage_lines, part_lines, sign_text, condition_text, opening_line, block_lines, blocks_lines, body_lines}
+use Rattle.us_decl.proofs.Deciding.{both, left_of, right_of, is_below}
+use Rattle.us_print.proofs.Plain.{as_term, plain, plain_term, plain_factor, plain_query, plain_queries, plain_comma, plain_levels, plain_part, plain_block, plain_blocks, plain_body}
 use Rattle.us_print.proofs.Printed.{flat_map-map}
-use Rattle.us_print.proofs.Known.{Has, Knows, KnowsTerm, KnowsFactor, KnowsQuery, KnowsQueries, KnowsComma, KnowsLevels, knows_part, knows_head}
+use Rattle.us_print.proofs.Known.{Has, Knows, KnowsTerm, KnowsFactor, KnowsQuery, KnowsQueries, KnowsComma, KnowsLevels, KnowsBlocks, knows_part, knows_head}
 
 -- in front of these bytes
 abbrev pub In : List ℕ → List Token → List ℕ → Type 0
@@ -450,9 +450,9 @@ no_word_sign : (less : Bool) (k : ℕ) (rest : List ℕ) → first_is is_word ((
 no_word_sign true k rest = refl
 no_word_sign false k rest = refl
 
-condition_stands : (ns : List (List ℕ)) (v : List ℕ) (less : Bool) (k : ℕ) → Has ns v → is_name v ≡ true → fits_number k ≡ true → Stands (condition_text ns (number_of v ns) less k) (Name v ∷ sign_token less ∷ Number k ∷ [])
-condition_stands ns v less k has name f rest stop =
-    chain (name_text ns (number_of v ns)) (sign_text less ++ decimal k) (Name v ∷ []) (sign_token less ∷ Number k ∷ []) rest (named ns v has name ((sign_text less ++ decimal k) ++ rest) (no_word_sign less k rest)) (signed_bound less k f rest stop)
+condition_stands : (ns : List (List ℕ)) (b : Block) → Has ns b.name → is_name b.name ≡ true → fits_number b.bound ≡ true → Stands (condition_text ns (cond_of ns b)) (Name b.name ∷ sign_token b.less ∷ Number b.bound ∷ [])
+condition_stands ns b has name f rest stop =
+    chain (name_text ns (number_of b.name ns)) (sign_text b.less ++ decimal b.bound) (Name b.name ∷ []) (sign_token b.less ∷ Number b.bound ∷ []) rest (named ns b.name has name ((sign_text b.less ++ decimal b.bound) ++ rest) (no_word_sign b.less b.bound rest)) (signed_bound b.less b.bound f rest stop)
 
 brace : (rest : List ℕ) → In (codes " {") (Fixed mark.BraceOpen ∷ []) rest
 brace rest = space (123 ∷ []) (Fixed mark.BraceOpen ∷ []) rest (sign 123 mark.BraceOpen brace_sign rest)
@@ -465,42 +465,81 @@ when_stands c ts p rest stop =
     (space (codes "when" ++ (32 ∷ (c ++ codes " {"))) (Fixed mark.When ∷ us) rest
     (worded (codes "when") mark.When (record { first = refl; all = refl }) refl (32 ∷ (c ++ codes " {")) us rest refl (space (c ++ codes " {") us rest inner)))
 
-head_lies : (h : Head) → fits_head h ≡ true → Lies (head_lines (head_of (names_head h) h)) (head_tokens (plain_head h) ++ (Fixed mark.BraceOpen ∷ []))
-head_lies h f =
-    let ns = names_head h in
-    let k = knows_head h in
-    let g = right_of (fits_queries h.queries) (fits_name h.name && (fits_names ns && fits_number h.bound)) f in
-    let name = left_of (fits_name h.name) (fits_names ns && fits_number h.bound) g in
-    let bound = right_of (fits_names ns) (fits_number h.bound) (right_of (fits_name h.name) (fits_names ns && fits_number h.bound) g) in
-    let c = condition_text ns (number_of h.name ns) h.less h.bound in
-    let ts = Name h.name ∷ sign_token h.less ∷ Number h.bound ∷ [] in
-    let us = queries_tokens (plain_queries h.queries) in
-    let P : List Token → Type 0 = λ x. Lies (head_lines (head_of ns h)) x in
-    subst P (sym (append_assoc us (Fixed mark.Part ∷ Fixed mark.When ∷ ts) (Fixed mark.BraceOpen ∷ [])))
-    (both_lie _ _ _ _ (queries_lie 1 ns h.queries (left_of (fits_queries h.queries) (fits_name h.name && (fits_names ns && fits_number h.bound)) f) k.0)
-    (line_lies 1 (codes "part when " ++ (c ++ codes " {")) (Fixed mark.Part ∷ Fixed mark.When ∷ (ts ++ (Fixed mark.BraceOpen ∷ []))) (when_stands c ts (condition_stands ns h.name h.less h.bound k.1 name bound))))
-
 end_lies : Lies (line 1 (codes "}")) (Fixed mark.BraceClose ∷ [])
 end_lies = line_lies 1 (codes "}") (Fixed mark.BraceClose ∷ []) (λ rest stop. sign 125 mark.BraceClose end_sign rest)
 
 rest_lies : Lies (line 1 (codes "rest {")) (Fixed mark.Rest ∷ Fixed mark.BraceOpen ∷ [])
 rest_lies = line_lies 1 (codes "rest {") (Fixed mark.Rest ∷ Fixed mark.BraceOpen ∷ []) (λ rest stop. worded (codes "rest") mark.Rest (record { first = refl; all = refl }) refl (codes " {") (Fixed mark.BraceOpen ∷ []) rest refl (brace rest))
 
+block_lies : (p : Part) → fits_part p ≡ true → Lies (block_lines (whole_part p)) (part_tokens (plain_part p) ++ (Fixed mark.BraceClose ∷ []))
+block_lies p f = both_lie _ _ _ _ (part_lies 2 p f) end_lies
+
+-- the part of a condition, and the part of the rest
+abbrev when_lines : List (List ℕ) → Block → List ℕ
+when_lines ns b = opening_line ns (cond_of ns b ∷ []) ++ block_lines (whole_part b.part)
+
+when_lies : (ns : List (List ℕ)) (b : Block) → fits_block b ≡ true → Has ns b.name → Lies (when_lines ns b) (block_tokens (plain_block b))
+when_lies ns b f has =
+    let g = right_of (fits_name b.name) (fits_number b.bound && fits_part b.part) f in
+    let c = condition_text ns (cond_of ns b) in
+    let ts = Name b.name ∷ sign_token b.less ∷ Number b.bound ∷ [] in
+    let condition = condition_stands ns b has (left_of (fits_name b.name) (fits_number b.bound && fits_part b.part) f) (left_of (fits_number b.bound) (fits_part b.part) g) in
+    both_lie (opening_line ns (cond_of ns b ∷ [])) (block_lines (whole_part b.part)) (Fixed mark.Part ∷ Fixed mark.When ∷ (ts ++ (Fixed mark.BraceOpen ∷ []))) (part_tokens (plain_part b.part) ++ (Fixed mark.BraceClose ∷ []))
+    (line_lies 1 (codes "part when " ++ (c ++ codes " {")) (Fixed mark.Part ∷ Fixed mark.When ∷ (ts ++ (Fixed mark.BraceOpen ∷ []))) (when_stands c ts condition)) (block_lies b.part (right_of (fits_number b.bound) (fits_part b.part) g))
+
+all_blocks : (ns : List (List ℕ)) (bs : Run Block) → all_run fits_block bs ≡ true → KnowsBlocks ns bs → AllRun (λ b. Lies (when_lines ns b) (block_tokens (plain_block b))) bs
+all_blocks ns Empty f k = tt
+all_blocks ns (Then bs b) f k = (all_blocks ns bs (left_of (all_run fits_block bs) (fits_block b) f) k.0, when_lies ns b (right_of (all_run fits_block bs) (fits_block b) f) k.1)
+
+blocks_tokens_plain : (bs : Run Block) → run_tokens (λ b. block_tokens (plain_block b)) bs ≡ blocks_tokens (plain_blocks bs)
+blocks_tokens_plain Empty = refl
+blocks_tokens_plain (Then bs b) = ap (λ ts. ts ++ block_tokens (plain_block b)) (blocks_tokens_plain bs)
+
+-- a part for each condition, and then the rest
+blocks_lines-map : (ns : List (List ℕ)) (bs : List Block) (q : DeclaredPart) → blocks_lines ns (map (cond_of ns) bs) (map (λ b. whole_part b.part) bs ++ (q ∷ [])) ≡ flat_map (when_lines ns) bs ++ (opening_line ns [] ++ block_lines q)
+blocks_lines-map ns [] q = no_more (opening_line ns [] ++ block_lines q)
+blocks_lines-map ns (b ∷ bs) q = ap (λ w. when_lines ns b ++ w) (blocks_lines-map ns bs q) ∙ sym (append_assoc (when_lines ns b) (flat_map (when_lines ns) bs) (opening_line ns [] ++ block_lines q))
+
+blocks_lie : (ns : List (List ℕ)) (bs : Run Block) (q : Part) → all_run fits_block bs ≡ true → KnowsBlocks ns bs → fits_part q ≡ true
+    → Lies (blocks_lines ns (map (cond_of ns) (run_items bs)) (parts_of bs q)) (blocks_tokens (plain_blocks bs) ++ (Fixed mark.Rest ∷ braced (plain_part q)))
+blocks_lie ns bs q f k g =
+    let rest = Fixed mark.Rest ∷ braced (plain_part q) in
+    let P : List ℕ → Type 0 = λ w. Lies w (blocks_tokens (plain_blocks bs) ++ rest) in
+    let Q : List Token → Type 0 = λ ts. Lies (flat_map (when_lines ns) (run_items bs)) ts in
+    subst P (sym (blocks_lines-map ns (run_items bs) (whole_part q)))
+    (both_lie (flat_map (when_lines ns) (run_items bs)) (opening_line ns [] ++ block_lines (whole_part q)) (blocks_tokens (plain_blocks bs)) rest
+    (subst Q (blocks_tokens_plain bs) (run_lies (when_lines ns) (λ b. block_tokens (plain_block b)) bs (all_blocks ns bs f k)))
+    (both_lie (opening_line ns []) (block_lines (whole_part q)) (Fixed mark.Rest ∷ Fixed mark.BraceOpen ∷ []) (part_tokens (plain_part q) ++ (Fixed mark.BraceClose ∷ [])) rest_lies (block_lies q g)))
+
+-- all blocks of a divided body are within their limits
+blocks_fit : (h : Head) (p : Part) → fits_head h ≡ true → fits_part p ≡ true → all_run fits_block (blocks_of h p) ≡ true
+blocks_fit h p f g =
+    let last = fits_name h.name && (fits_names (names_head h) && fits_number h.bound) in
+    let x = right_of (fits_queries h.queries) (fits_blocks h.queries h.blocks && last) f in
+    let y = right_of (fits_blocks h.queries h.blocks) last x in
+    let z = right_of (fits_name h.name) (fits_names (names_head h) && fits_number h.bound) y in
+    both (all_run fits_block h.blocks) (fits_name h.name && (fits_number h.bound && fits_part p)) (left_of (all_run fits_block h.blocks) (ltb (count_run h.blocks) 3 && fits_names (names_blocks h.blocks (names_queries h.queries))) (left_of (fits_blocks h.queries h.blocks) last x))
+    (both (fits_name h.name) (fits_number h.bound && fits_part p) (left_of (fits_name h.name) (fits_names (names_head h) && fits_number h.bound) y) (both (fits_number h.bound) (fits_part p) (right_of (fits_names (names_head h)) (fits_number h.bound) z) g))
+
+-- how the tokens of a divided body regroup
+regrouped : (q b c r t : List Token) → q ++ ((b ++ (c ++ r)) ++ t) ≡ (q ++ (b ++ c)) ++ (r ++ t)
+regrouped q b c r t = simp append_assoc
+
 body_lies : (b : Body) → fits_body b ≡ true → Lies (body_lines (body_of b)) (body_tokens (plain_body b))
 body_lies (Whole p) f = part_lies 1 p f
 body_lies (Split h p q) f =
     let g = right_of (fits_head h) (fits_part p && fits_part q) f in
-    let us = part_tokens (plain_part p) in
-    let vs = part_tokens (plain_part q) in
-    let hs = head_tokens (plain_head h) in
+    let head = left_of (fits_head h) (fits_part p && fits_part q) f in
+    let k = knows_head h p in
+    let bs = blocks_of h p in
+    let us = queries_tokens (plain_queries h.queries) in
+    let vs = blocks_tokens (plain_blocks h.blocks) in
+    let c = condition_tokens h.name h.less h.bound in
     let P : List Token → Type 0 = λ x. Lies (body_lines (body_of (Split h p q))) x in
-    let same : (hs ++ (Fixed mark.BraceOpen ∷ [])) ++ (us ++ (Fixed mark.BraceClose ∷ Fixed mark.Rest ∷ Fixed mark.BraceOpen ∷ (vs ++ (Fixed mark.BraceClose ∷ [])))) ≡ hs ++ ((Fixed mark.BraceOpen ∷ (us ++ (Fixed mark.BraceClose ∷ []))) ++ (Fixed mark.Rest ∷ Fixed mark.BraceOpen ∷ (vs ++ (Fixed mark.BraceClose ∷ [])))) =
-    append_assoc hs (Fixed mark.BraceOpen ∷ []) (us ++ (Fixed mark.BraceClose ∷ Fixed mark.Rest ∷ Fixed mark.BraceOpen ∷ (vs ++ (Fixed mark.BraceClose ∷ []))))
-    ∙ ap (λ x. hs ++ (Fixed mark.BraceOpen ∷ x)) (sym (append_assoc us (Fixed mark.BraceClose ∷ []) (Fixed mark.Rest ∷ Fixed mark.BraceOpen ∷ (vs ++ (Fixed mark.BraceClose ∷ []))))) in
-    subst P same
-    (both_lie _ _ _ _ (head_lies h (left_of (fits_head h) (fits_part p && fits_part q) f))
-    (both_lie _ _ _ _ (part_lies 2 p (left_of (fits_part p) (fits_part q) g))
-    (both_lie _ _ _ _ end_lies (both_lie _ _ _ _ rest_lies (both_lie _ _ _ _ (part_lies 2 q (right_of (fits_part p) (fits_part q) g)) end_lies)))))
+    subst P (regrouped us vs c (braced (plain_part p)) (Fixed mark.Rest ∷ braced (plain_part q)))
+    (both_lie (queries_lines 1 (names_head h) (map (query_of (names_head h)) (run_items h.queries))) (blocks_lines (names_head h) (map (cond_of (names_head h)) (run_items bs)) (parts_of bs q)) us (blocks_tokens (plain_blocks bs) ++ (Fixed mark.Rest ∷ braced (plain_part q)))
+    (queries_lie 1 (names_head h) h.queries (left_of (fits_queries h.queries) (fits_blocks h.queries h.blocks && (fits_name h.name && (fits_names (names_head h) && fits_number h.bound))) head) k.0)
+    (blocks_lie (names_head h) bs q (blocks_fit h p head (left_of (fits_part p) (fits_part q) g)) k.1 (right_of (fits_part p) (fits_part q) g)))
 
 named_line : (w : List ℕ) → is_name w ≡ true → Stands (codes "format " ++ (w ++ codes " {")) (Fixed mark.Format ∷ Name w ∷ Fixed mark.BraceOpen ∷ [])
 named_line w name rest stop =

@@ -7,10 +7,10 @@ use Rattle.us_decl.specs.declared.mark.Mark.{Mark}
 use Rattle.us_decl.specs.declared.mark.Mark.TheVariants as mark
 use Rattle.us_decl.specs.declared.column.Column.{Column}
 use Rattle.us_decl.specs.declared.column.Column.TheVariants.{Level, Val}
-use Rattle.us_decl.specs.Grammar.{Comma, Run, Empty, Then, Expr, Term, Just, Row, Col, Named, Num, Group, Word, Query, Single, Lanes, Part, Split, Decl, decl_tokens}
-use Rattle.us_decl.specs.Names.{with_name, names_queries, names_levels, names_comma, names_expr, names_term, names_query}
-use Rattle.us_decl.specs.Limits.{count, count_run, count_levels, nodes, nodes_term, all, all_run, all_levels, fits_nodes, fits_list, fits_number, fits_name, fits_names, fits_expr, fits_term, fits_whole, fits_query, fits_queries, fits_levels, fits_numbers, fits_column, fits_pack, fits_packs, fits_part, fits_head, fits_decl}
-use Rattle.us_parse.specs.Piece.{Before, BehindName, BehindHead, BehindFirst, OneVariable, TwoVariables, Use, Argument, Mapped, Hole, Begin, AfterPlus, AfterMinus, Piece, AtFormat, AtName, AtBrace, Between, AtVariable, AfterVariable, AtWord, AtSlot, AtEqual, AtSchedule, AtArgument, Operand, Divisor, After, AtInto, AtLanes, AtMap, AtLevels, Tail, AtTrim, AtMerge, AtPack, AtColumn, AfterColumn, AtWhen, AtCondition, AtSign, AtBound, AtFirst, AtRest, AtSecond, AtEnd, Done, expect, a_name, a_number, one_more, headed, between, after_variable, a_word, filled, operand, divided, divisor, ended, closed, parted, after, at_levels, finished, more_numbers, a_trim, a_merge, tail, trimmed, merged, a_column, after_column, a_sign, head_of, step}
+use Rattle.us_decl.specs.Grammar.{Comma, Run, Empty, Then, Expr, Term, Just, Row, Col, Named, Num, Group, Word, Query, Single, Lanes, Part, Block, Head, Split, Decl, decl_tokens}
+use Rattle.us_decl.specs.Names.{with_name, names_queries, names_levels, names_blocks, names_comma, names_expr, names_term, names_query}
+use Rattle.us_decl.specs.Limits.{count, count_run, count_levels, nodes, nodes_term, all, all_run, all_levels, fits_nodes, fits_list, fits_number, fits_name, fits_names, fits_expr, fits_term, fits_whole, fits_query, fits_queries, fits_levels, fits_numbers, fits_column, fits_pack, fits_packs, fits_part, fits_block, fits_blocks, fits_head, fits_decl}
+use Rattle.us_parse.specs.Piece.{Before, BehindName, BehindHead, BehindBlocks, OneVariable, TwoVariables, Use, Argument, Mapped, Hole, Begin, AfterPlus, AfterMinus, Piece, AtFormat, AtName, AtBrace, Between, AtVariable, AfterVariable, AtWord, AtSlot, AtEqual, AtSchedule, AtArgument, Operand, Divisor, After, AtInto, AtLanes, AtMap, AtLevels, Tail, AtTrim, AtMerge, AtPack, AtColumn, AfterColumn, AtWhen, AtCondition, AtSign, AtBound, AtPart, AtRest, AtLast, AtEnd, Done, expect, a_name, a_number, one_more, headed, between, after_variable, a_word, filled, operand, divided, divisor, ended, closed, parted, after, at_levels, finished, more_numbers, a_trim, a_merge, tail, trimmed, merged, a_column, after_column, a_sign, head_of, at_rest, step}
 use Rattle.us_parse.specs.Within.{fits_before, fits_front, fits_begun, fits_one, fits_two, names_use, fits_use, names_hole, names_open, nodes_hole, held, fits_hole, fits_open, begun, fits_inside, fits_behind, fits_lanes, fits_columns, fits_packing, fits}
 use Rattle.us_parse.specs.Within.{check, repeats, TooBig}
 use Rattle.us_parse.specs.Machine.{reader}
@@ -333,10 +333,13 @@ number_back s go (Name w) f = tt
 same_fits : (s u : Piece) → fits u ≡ fits s → fits u ≡ true → fits s ≡ true
 same_fits s u e h = sym e ∙ h
 
+without_room : (a b c : Bool) → (a && (b && c)) ≡ true → (a && b) ≡ true
+without_room a b c h = grind (arith, nat_tests)
+
 headed_back : (b : Before) (qs : Run Query) → Back (Between b qs) (headed b qs)
-headed_back (BehindName n) qs = λ e. e
+headed_back (BehindName n) qs = λ e. without_room (fits_name n) (fits_queries qs) (fits_blocks qs Empty) e
 headed_back (BehindHead n h) qs = tt
-headed_back (BehindFirst n h p) qs = tt
+headed_back (BehindBlocks n h p) qs = tt
 
 between_back : (b : Before) (qs : Run Query) (t : Token) → Back (Between b qs) (between b qs t)
 between_back b qs (Fixed mark.Let) = λ e. left_of (fits_front b qs) (ltb (count_run qs) 16) e
@@ -397,10 +400,7 @@ outward_two a b c d h = grind (arith, nat_tests)
 finished_back : (b : Before) (p : Part) → fits (finished b p) ≡ true → fits (Tail b p) ≡ true
 finished_back (BehindName n) p e = e
 finished_back (BehindHead n h) p e = outward (fits_name n) (fits_head h) (fits_part p) e
-finished_back (BehindFirst n h p) q e = outward_two (fits_name n) (fits_head h) (fits_part p) (fits_part q) e
-
-without_room : (a b c : Bool) → (a && (b && c)) ≡ true → (a && b) ≡ true
-without_room a b c h = grind (arith, nat_tests)
+finished_back (BehindBlocks n h p) q e = outward_two (fits_name n) (fits_head h) (fits_part p) (fits_part q) e
 
 tail_back : (b : Before) (p : Part) (t : Token) → Back (Tail b p) (tail b p t)
 tail_back b p (Fixed mark.Comma) = more_back b p.queries p.levels p.trim p.merge p.packs
@@ -480,16 +480,38 @@ levels_back b qs (Fixed mark.Close) = no_levels (fits_before b) (fits_queries qs
 levels_back b qs t = first_level b qs t
 
 -- the condition
-condition_bools : (a b c d : Bool) → (a && (b && (c && d))) ≡ true → (a && b) ≡ true
+condition_bools : (a b c d : Bool) → (a && (b && (c && d))) ≡ true → (a && (b && c)) ≡ true
 condition_bools a b c d h = grind (arith, nat_tests)
 
-sign_token_back : (n : List ℕ) (qs : Run Query) (v : List ℕ) (t : Token) → Back (AtSign n qs v) (a_sign n qs v t)
-sign_token_back n qs v (Fixed mark.Less) = λ e. e
-sign_token_back n qs v (Fixed mark.AtLeast) = λ e. e
-sign_token_back n qs v _ = tt
+sign_token_back : (n : List ℕ) (qs : Run Query) (bs : Run Block) (v : List ℕ) (t : Token) → Back (AtSign n qs bs v) (a_sign n qs bs v t)
+sign_token_back n qs bs v (Fixed mark.Less) = λ e. e
+sign_token_back n qs bs v (Fixed mark.AtLeast) = λ e. e
+sign_token_back n qs bs v _ = tt
 
-bound_bools : (a b c d e : Bool) → (a && (b && (c && (d && e)))) ≡ true → (a && (b && (c && d))) ≡ true
-bound_bools a b c d e h = grind (arith, nat_tests)
+bound_bools : (a b c d e f : Bool) → (a && (b && (c && (d && (e && f))))) ≡ true → (a && (b && (c && (d && e)))) ≡ true
+bound_bools a b c d e f h = grind (arith, nat_tests)
+
+-- one condition fewer
+rest_back : (n : List ℕ) (h : Head) (p : Part) (t : Token) → Back (AtRest n h p) (at_rest n h p t)
+rest_back n h p (Fixed mark.Rest) = λ e. e
+rest_back n h p (Fixed mark.Part) = λ e.
+    let ns = names_blocks h.blocks (names_queries h.queries) in
+    let w = with_name h.name ns in
+    let last = fits_name h.name && (fits_number h.bound && fits_part p) in
+    let x = right_of (fits_queries h.queries) ((all_run fits_block h.blocks && last) && (ltb (count_run h.blocks + 1) 3 && fits_names w)) (right_of (fits_name n) (fits_queries h.queries && ((all_run fits_block h.blocks && last) && (ltb (count_run h.blocks + 1) 3 && fits_names w))) e) in
+    let y = parts (all_run fits_block h.blocks && last) (ltb (count_run h.blocks + 1) 3 && fits_names w) x in
+    let z = parts (ltb (count_run h.blocks + 1) 3) (fits_names w) y.1 in
+    let u = parts (all_run fits_block h.blocks) last y.0 in
+    let v = parts (fits_name h.name) (fits_number h.bound && fits_part p) u.1 in
+    let r = parts (fits_number h.bound) (fits_part p) v.1 in
+    let few : ltb (count_run h.blocks) 3 ≡ true = under (count_run h.blocks) (count_run h.blocks + 1) 3 (omega arith) z.0 in
+    let names : fits_names ns ≡ true = under (length ns) (length w) 33 (longer ns w (with_goes_on h.name ns)) z.1 in
+    let blocks : fits_blocks h.queries h.blocks ≡ true = both (all_run fits_block h.blocks) (ltb (count_run h.blocks) 3 && fits_names ns) u.0 (both (ltb (count_run h.blocks) 3) (fits_names ns) few names) in
+    let head : fits_head h ≡ true =
+    both (fits_queries h.queries) (fits_blocks h.queries h.blocks && (fits_name h.name && (fits_names w && fits_number h.bound))) (left_of (fits_queries h.queries) ((all_run fits_block h.blocks && last) && (ltb (count_run h.blocks + 1) 3 && fits_names w)) (right_of (fits_name n) (fits_queries h.queries && ((all_run fits_block h.blocks && last) && (ltb (count_run h.blocks + 1) 3 && fits_names w))) e))
+    (both (fits_blocks h.queries h.blocks) (fits_name h.name && (fits_names w && fits_number h.bound)) blocks (both (fits_name h.name) (fits_names w && fits_number h.bound) v.0 (both (fits_names w) (fits_number h.bound) z.1 r.0))) in
+    both (fits_name n) (fits_head h && fits_part p) (left_of (fits_name n) (fits_queries h.queries && ((all_run fits_block h.blocks && last) && (ltb (count_run h.blocks + 1) 3 && fits_names w))) e) (both (fits_head h) (fits_part p) head r.1)
+rest_back n h p _ = tt
 
 inward : (a b c : Bool) → ((a && b) && c) ≡ true → (a && b) ≡ true
 inward a b c h = left_of (a && b) c h
@@ -519,13 +541,13 @@ step_back (AtMerge b qs ls cut ks) t = number_back (AtMerge b qs ls cut ks) (λ 
 step_back (AtPack b p) t = expect_back (AtPack b p) (AtColumn b p None) mark.Open t (λ e. left_of (fits_packing b p) true e)
 step_back (AtColumn b p cs) t = column_back b p cs t
 step_back (AfterColumn b p cs) t = after_column_back b p cs t
-step_back (AtWhen n qs) t = expect_back (AtWhen n qs) (AtCondition n qs) mark.When t (λ e. e)
-step_back (AtCondition n qs) t = name_back (AtCondition n qs) (AtSign n qs) t (λ v e. condition_bools (fits_name n) (fits_queries qs) (fits_name v) (fits_names (with_name v (names_queries qs))) e)
-step_back (AtSign n qs v) t = sign_token_back n qs v t
-step_back (AtBound n qs v less) t = number_back (AtBound n qs v less) (λ k. AtFirst n (head_of qs v less k)) t (λ k e. bound_bools (fits_name n) (fits_queries qs) (fits_name v) (fits_names (with_name v (names_queries qs))) (fits_number k) e)
-step_back (AtFirst n h) t = expect_back (AtFirst n h) (Between (BehindHead n h) Empty) mark.BraceOpen t (λ e. left_of (fits_name n && fits_head h) true e)
-step_back (AtRest n h p) t = expect_back (AtRest n h p) (AtSecond n h p) mark.Rest t (λ e. e)
-step_back (AtSecond n h p) t = expect_back (AtSecond n h p) (Between (BehindFirst n h p) Empty) mark.BraceOpen t (λ e. left_of (fits_name n && (fits_head h && fits_part p)) true e)
+step_back (AtWhen n qs bs) t = expect_back (AtWhen n qs bs) (AtCondition n qs bs) mark.When t (λ e. e)
+step_back (AtCondition n qs bs) t = name_back (AtCondition n qs bs) (AtSign n qs bs) t (λ v e. condition_bools (fits_name n) (fits_queries qs) (fits_blocks qs bs) (fits_name v && fits_names (with_name v (names_blocks bs (names_queries qs)))) e)
+step_back (AtSign n qs bs v) t = sign_token_back n qs bs v t
+step_back (AtBound n qs bs v less) t = number_back (AtBound n qs bs v less) (λ k. AtPart n (head_of qs bs v less k)) t (λ k e. bound_bools (fits_name n) (fits_queries qs) (fits_blocks qs bs) (fits_name v) (fits_names (with_name v (names_blocks bs (names_queries qs)))) (fits_number k) e)
+step_back (AtPart n h) t = expect_back (AtPart n h) (Between (BehindHead n h) Empty) mark.BraceOpen t (λ e. left_of (fits_name n && fits_head h) true e)
+step_back (AtRest n h p) t = rest_back n h p t
+step_back (AtLast n h p) t = expect_back (AtLast n h p) (Between (BehindBlocks n h p) Empty) mark.BraceOpen t (λ e. left_of (fits_name n && (fits_head h && fits_part p)) true e)
 step_back (AtEnd n h p q) t = expect_back (AtEnd n h p q) (Done (record { name = n; body = Split h p q })) mark.BraceClose t (λ e. e)
 step_back (Done d) t = tt
 

@@ -2,8 +2,8 @@
 use Rattle.std.proofs.Common.{◌≡◌, ◌<◌, ◌≤◌, ℕ, suc, ◌+◌, List, [], ◌∷◌, ◌++◌, length, Option, Some, None, Bool, true, false, cond, not, eqb, refl, sym, ap, ◌∙◌, arith, length-append}
 use Rattle.std.proofs.lemmas.Bool.Decides.{nat_tests}
 use Rattle.std.specs.List.{slice_index_or}
-use Rattle.us_decl.specs.Grammar.{Comma, Only, And, Run, Empty, Then, Expr, One, Plus, Less, Term, Just, Over, Rest, Factor, Row, Col, Named, Num, Group, Query, Single, Lanes, Part, Head}
-use Rattle.us_decl.specs.Names.{same_name, number_of, with_name, names_expr, names_term, names_factor, names_query, names_queries, names_comma, names_levels, names_part, names_head}
+use Rattle.us_decl.specs.Grammar.{Comma, Only, And, Run, Empty, Then, Expr, One, Plus, Less, Term, Just, Over, Rest, Factor, Row, Col, Named, Num, Group, Query, Single, Lanes, Part, Block, Head, blocks_of}
+use Rattle.us_decl.specs.Names.{same_name, number_of, with_name, names_expr, names_term, names_factor, names_query, names_queries, names_comma, names_levels, names_part, names_blocks, names_head}
 use Rattle.us_decl.proofs.Numbering.{GoesOn, goes_on_self, goes_on_trans, with_goes_on, expr_goes_on, term_goes_on, at_most, stays}
 use Rattle.us_decl.proofs.Deciding.{left_of, right_of}
 
@@ -141,6 +141,22 @@ pub knows_part : (p : Part) → KnowsQueries (names_part p) p.queries × KnowsLe
 knows_part p =
     (knows_queries p.queries (names_part p) (levels_goes_on p.levels (names_queries p.queries)), knows_levels p.levels (names_queries p.queries) (names_part p) (goes_on_self (names_part p)))
 
-pub knows_head : (h : Head) → KnowsQueries (names_head h) h.queries × Has (names_head h) h.name
-knows_head h =
-    (knows_queries h.queries (names_head h) (with_goes_on h.name (names_queries h.queries)), has_joined h.name (names_queries h.queries) (names_head h) (goes_on_self (names_head h)))
+abbrev pub KnowsBlocks : List (List ℕ) → Run Block → Type 0
+KnowsBlocks ns Empty = Unit {0}
+KnowsBlocks ns (Then bs b) = KnowsBlocks ns bs × Has ns b.name
+
+blocks_go_on : (bs : Run Block) (ms : List (List ℕ)) → GoesOn ms (names_blocks bs ms)
+blocks_go_on Empty ms = goes_on_self ms
+blocks_go_on (Then bs b) ms = goes_on_trans ms (names_blocks bs ms) (with_name b.name (names_blocks bs ms)) (blocks_go_on bs ms) (with_goes_on b.name (names_blocks bs ms))
+
+knows_blocks : (bs : Run Block) (ms ns : List (List ℕ)) → GoesOn (names_blocks bs ms) ns → KnowsBlocks ns bs
+knows_blocks Empty ms ns g = tt
+knows_blocks (Then bs b) ms ns g =
+    let before = names_blocks bs ms in
+    (knows_blocks bs ms ns (goes_on_trans before (with_name b.name before) ns (with_goes_on b.name before) g), has_joined b.name before ns g)
+
+-- the names of the head of these blocks
+pub knows_head : (h : Head) (p : Part) → KnowsQueries (names_head h) h.queries × KnowsBlocks (names_head h) (blocks_of h p)
+knows_head h p =
+    let all = blocks_of h p in
+    (knows_queries h.queries (names_head h) (blocks_go_on all (names_queries h.queries)), knows_blocks all (names_queries h.queries) (names_head h) (goes_on_self (names_head h)))

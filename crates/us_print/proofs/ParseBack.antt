@@ -1,8 +1,8 @@
 -- Parsing what was printed gives the declaration back.
-use Rattle.std.proofs.Common.{◌≡◌, ◌+◌, ℕ, suc, List, [], ◌∷◌, ◌++◌, length, drop, Result, Ok, Err, refl, sym, ap, ◌∙◌, length-append, arith}
+use Rattle.std.proofs.Common.{◌≡◌, ◌+◌, ℕ, suc, List, [], ◌∷◌, ◌++◌, length, Result, Ok, Err, refl, sym, ap, ◌∙◌, length-append, arith}
 use Rattle.std.proofs.Math.Seq.{drop-append_seam}
 use Rattle.us_tokens.specs.Text.{Text}
-use Rattle.us_tokens.specs.Reading.{Answer, Read, NoToken, Form, Broken, scan}
+use Rattle.us_tokens.specs.Reading.{Answer, Read, NoToken, Form, scan}
 use Rattle.us_decl.specs.declared.lexeme.Lexeme.{Lexeme}
 use Rattle.us_decl.specs.declared.decl.Decl.{Decl as Value}
 use Rattle.us_parse.specs.declared.parsed.OneDecl.{OneDecl}
@@ -12,11 +12,11 @@ use Rattle.us_decl.specs.Grammar.{Decl}
 use Rattle.us_parse.specs.Piece.{AtFormat}
 use Rattle.us_parse.specs.Machine.{reader}
 use Rattle.us_parse.specs.Within.{Break}
-use Rattle.us_decl.specs.Declares.{IsValid, declared}
+use Rattle.us_decl.specs.Declares.{declared}
 use Rattle.us_decl.specs.Views.{decl_view}
-use Rattle.us_print.specs.Canon.{decl_text, open_text}
-use Rattle.us_parse.specs.Parses.{tokens_of, ParsesOne, TellsOneResult}
-use Rattle.us_print.specs.ReadBack.{IsReadBack, GivesBack, ParseBackLaw}
+use Rattle.us_print.specs.Canon.{decl_text}
+use Rattle.us_parse.specs.Parses.{tokens_of, TellsOneResult}
+use Rattle.us_print.specs.ReadBack.{GivesBack, ParseBackLaw}
 use Rattle.us_print.proofs.RoundTrip.{read_back}
 use Rattle.us_print.proofs.ViewTells.{view_tells}
 

@@ -3,10 +3,10 @@ use Rattle.std.proofs.Common.{◌≡◌, ◌<◌, ℕ, suc, ◌+◌, List, [], �
 use Rattle.std.proofs.lemmas.List.{map-append}
 use Rattle.us_expr.specs.Tree.{Tree, Quotient, Remainder}
 use Rattle.us_expr.specs.Tree as trees
-use Rattle.us_decl.specs.Grammar.{Comma, Only, And, Run, Empty, Then, Expr, One, Plus, Less, Term, Just, Over, Rest, Factor, Row, Col, Named, Num, Group, Sum, Enumerate, Reorder, Query, Single, Lanes, Part, Head, Body, Whole, Split, Decl}
-use Rattle.us_decl.specs.Names.{number_of, with_name, names_expr, names_term, names_factor, names_query, names_queries, names_comma, names_levels, names_part, names_head}
-use Rattle.us_decl.specs.Limits.{count, count_run, all, all_run, nodes, nodes_term, nodes_factor, fits_nodes, fits_list, fits_number, fits_name, fits_names, fits_expr, fits_term, fits_factor, fits_whole, fits_query, fits_queries, count_levels, all_levels, fits_levels, fits_numbers, fits_packs, fits_part, fits_head, fits_body, fits_decl}
-use Rattle.us_decl.specs.Declares.{tree_expr, tree_term, tree_factor, query_of, comma_items, run_items, maybe_items, part_of, head_of, body_of, DeclaredPart, DeclaredHead, DeclaredBody, Undivided, Divided, declared}
+use Rattle.us_decl.specs.Grammar.{Comma, Only, And, Run, Empty, Then, Expr, One, Plus, Less, Term, Just, Over, Rest, Factor, Row, Col, Named, Num, Group, Sum, Enumerate, Reorder, Query, Single, Lanes, Part, Block, Head, Body, Whole, Split, Decl, blocks_of}
+use Rattle.us_decl.specs.Names.{number_of, with_name, names_expr, names_term, names_factor, names_query, names_queries, names_comma, names_levels, names_part, names_blocks, names_head}
+use Rattle.us_decl.specs.Limits.{count, count_run, all, all_run, nodes, nodes_term, nodes_factor, fits_nodes, fits_list, fits_number, fits_name, fits_names, fits_expr, fits_term, fits_factor, fits_whole, fits_query, fits_queries, count_levels, all_levels, fits_levels, fits_numbers, fits_packs, fits_part, fits_block, fits_blocks, fits_head, fits_body, fits_decl}
+use Rattle.us_decl.specs.Declares.{tree_expr, tree_term, tree_factor, query_of, comma_items, run_items, maybe_items, part_of, whole_part, cond_of, head_of, parts_of, body_of, DeclaredPart, Undivided, Divided, declared}
 use Rattle.us_decl.specs.Declares as declares
 use Rattle.us_decl.proofs.Deciding.{both, left_of, right_of, below, is_below}
 
@@ -53,8 +53,15 @@ plain_levels (Some es) = Some (plain_comma es)
 abbrev pub plain_part : Part → Part
 plain_part p = record { queries = plain_queries p.queries; levels = plain_levels p.levels; trim = p.trim; merge = p.merge; packs = p.packs }
 
+abbrev pub plain_block : Block → Block
+plain_block b = record { name = b.name; less = b.less; bound = b.bound; part = plain_part b.part }
+
+abbrev pub plain_blocks : Run Block → Run Block
+plain_blocks Empty = Empty
+plain_blocks (Then bs b) = Then (plain_blocks bs) (plain_block b)
+
 abbrev pub plain_head : Head → Head
-plain_head h = record { queries = plain_queries h.queries; name = h.name; less = h.less; bound = h.bound }
+plain_head h = record { queries = plain_queries h.queries; blocks = plain_blocks h.blocks; name = h.name; less = h.less; bound = h.bound }
 
 abbrev pub plain_body : Body → Body
 plain_body (Whole p) = Whole (plain_part p)
@@ -130,8 +137,12 @@ names_plain_levels (Some es) ns = names_plain_comma es ns
 pub names_plain_part : (p : Part) → names_part (plain_part p) ≡ names_part p
 names_plain_part p = ap (names_levels (plain_levels p.levels)) (names_plain_queries p.queries) ∙ names_plain_levels p.levels (names_queries p.queries)
 
+names_plain_blocks : (bs : Run Block) (ns : List (List ℕ)) → names_blocks (plain_blocks bs) ns ≡ names_blocks bs ns
+names_plain_blocks Empty ns = refl
+names_plain_blocks (Then bs b) ns = ap (with_name b.name) (names_plain_blocks bs ns)
+
 pub names_plain_head : (h : Head) → names_head (plain_head h) ≡ names_head h
-names_plain_head h = ap (with_name h.name) (names_plain_queries h.queries)
+names_plain_head h = ap (λ ns. with_name h.name (names_blocks (plain_blocks h.blocks) ns)) (names_plain_queries h.queries) ∙ ap (with_name h.name) (names_plain_blocks h.blocks (names_queries h.queries))
 
 -- the same declaration
 query_plain : (ns : List (List ℕ)) (q : Query) → query_of ns (plain_query q) ≡ query_of ns q
@@ -163,17 +174,36 @@ part_plain p =
     ∙ ap (λ qs. record { names = ns; queries = qs; levels = map (tree_expr ns) (maybe_items (plain_levels p.levels)); trim = maybe_items p.trim; merge = maybe_items p.merge; packs = map comma_items (run_items p.packs) }) (queries_plain ns p.queries)
     ∙ ap (λ ls. record { names = ns; queries = map (query_of ns) (run_items p.queries); levels = ls; trim = maybe_items p.trim; merge = maybe_items p.merge; packs = map comma_items (run_items p.packs) }) (levels_plain ns p.levels)
 
-head_plain : (h : Head) → head_of (names_head (plain_head h)) (plain_head h) ≡ head_of (names_head h) h
-head_plain h =
-    ap (λ ms. head_of ms (plain_head h)) (names_plain_head h)
-    ∙ ap (λ qs. record { names = names_head h; queries = qs; var = (head_of (names_head h) h).var; less = h.less; bound = h.bound }) (queries_plain (names_head h) h.queries)
+conds_plain : (ns : List (List ℕ)) (bs : Run Block) → map (cond_of ns) (run_items (plain_blocks bs)) ≡ map (cond_of ns) (run_items bs)
+conds_plain ns Empty = refl
+conds_plain ns (Then bs b) =
+    map-append (cond_of ns) (run_items (plain_blocks bs)) (plain_block b ∷ []) ∙ ap (λ x. x ++ (cond_of ns b ∷ [])) (conds_plain ns bs) ∙ sym (map-append (cond_of ns) (run_items bs) (b ∷ []))
+
+abbrev part_of_block : Block → DeclaredPart
+part_of_block b = whole_part b.part
+
+blocks_plain : (bs : Run Block) → map part_of_block (run_items (plain_blocks bs)) ≡ map part_of_block (run_items bs)
+blocks_plain Empty = refl
+blocks_plain (Then bs b) =
+    map-append part_of_block (run_items (plain_blocks bs)) (plain_block b ∷ []) ∙ ap (λ x. x ++ (part_of_block (plain_block b) ∷ [])) (blocks_plain bs)
+    ∙ ap (λ x. map part_of_block (run_items bs) ++ (x ∷ [])) (part_plain b.part) ∙ sym (map-append part_of_block (run_items bs) (b ∷ []))
+
+parts_plain : (bs : Run Block) (q : Part) → parts_of (plain_blocks bs) (plain_part q) ≡ parts_of bs q
+parts_plain bs q = ap (λ x. x ++ (whole_part (plain_part q) ∷ [])) (blocks_plain bs) ∙ ap (λ x. map part_of_block (run_items bs) ++ (x ∷ [])) (part_plain q)
+
+head_plain : (h : Head) (p : Part) → head_of (names_head (plain_head h)) (plain_queries h.queries) (plain_blocks (blocks_of h p)) ≡ head_of (names_head h) h.queries (blocks_of h p)
+head_plain h p =
+    let ns = names_head h in
+    let bs = blocks_of h p in
+    ap (λ ms. head_of ms (plain_queries h.queries) (plain_blocks bs)) (names_plain_head h)
+    ∙ ap (λ qs. record { names = ns; queries = qs; conds = map (cond_of ns) (run_items (plain_blocks bs)) }) (queries_plain ns h.queries)
+    ∙ ap (λ cs. record { names = ns; queries = map (query_of ns) (run_items h.queries); conds = cs }) (conds_plain ns bs)
 
 body_plain : (b : Body) → body_of (plain_body b) ≡ body_of b
 body_plain (Whole p) = ap Undivided (part_plain p)
 body_plain (Split h p q) =
-    ap (λ x. Divided x (part_of (names_part (plain_part p)) (plain_part p)) (part_of (names_part (plain_part q)) (plain_part q))) (head_plain h)
-    ∙ ap (λ x. Divided (head_of (names_head h) h) x (part_of (names_part (plain_part q)) (plain_part q))) (part_plain p)
-    ∙ ap (λ x. Divided (head_of (names_head h) h) (part_of (names_part p) p) x) (part_plain q)
+    let bs = blocks_of h p in
+    ap (λ x. Divided x (parts_of (plain_blocks bs) (plain_part q))) (head_plain h p) ∙ ap (Divided (head_of (names_head h) h.queries bs)) (parts_plain bs q)
 
 pub declared_plain : (d : Decl) → declared (plain_decl d) ≡ declared d
 declared_plain d = ap (λ b. record { name = d.name; body = b }) (body_plain d.body)
@@ -322,12 +352,37 @@ fits_plain_part p h =
     (fits_plain_queries p.queries (left_of (fits_queries p.queries) (fits_levels p.queries p.levels && tail) h))
     (first (fits_levels p.queries p.levels) tail (fits_levels (plain_queries p.queries) (plain_levels p.levels)) (fits_plain_levels p.queries p.levels) rest)
 
+fits_plain_block : (b : Block) → fits_block b ≡ true → fits_block (plain_block b) ≡ true
+fits_plain_block b h =
+    second (fits_name b.name) (fits_number b.bound && fits_part b.part) (fits_number b.bound && fits_part (plain_part b.part)) (second (fits_number b.bound) (fits_part b.part) (fits_part (plain_part b.part)) (fits_plain_part b.part)) h
+
+all_plain_blocks : (bs : Run Block) → all_run fits_block bs ≡ true → all_run fits_block (plain_blocks bs) ≡ true
+all_plain_blocks Empty h = refl
+all_plain_blocks (Then bs b) h = both (all_run fits_block (plain_blocks bs)) (fits_block (plain_block b)) (all_plain_blocks bs (left_of (all_run fits_block bs) (fits_block b) h)) (fits_plain_block b (right_of (all_run fits_block bs) (fits_block b) h))
+
+count_plain_blocks : (bs : Run Block) → count_run (plain_blocks bs) ≡ count_run bs
+count_plain_blocks Empty = refl
+count_plain_blocks (Then bs b) = ap (λ n. n + 1) (count_plain_blocks bs)
+
+fits_plain_blocks : (qs : Run Query) (bs : Run Block) → fits_blocks qs bs ≡ true → fits_blocks (plain_queries qs) (plain_blocks bs) ≡ true
+fits_plain_blocks qs bs h =
+    let names = names_blocks bs (names_queries qs) in
+    let rest = right_of (all_run fits_block bs) (ltb (count_run bs) 3 && fits_names names) h in
+    let same : names_blocks (plain_blocks bs) (names_queries (plain_queries qs)) ≡ names = ap (names_blocks (plain_blocks bs)) (names_plain_queries qs) ∙ names_plain_blocks bs (names_queries qs) in
+    both (all_run fits_block (plain_blocks bs)) (ltb (count_run (plain_blocks bs)) 3 && fits_names (names_blocks (plain_blocks bs) (names_queries (plain_queries qs))))
+    (all_plain_blocks bs (left_of (all_run fits_block bs) (ltb (count_run bs) 3 && fits_names names) h))
+    (ap (λ n. ltb n 3 && fits_names (names_blocks (plain_blocks bs) (names_queries (plain_queries qs)))) (count_plain_blocks bs) ∙ ap (λ ns. ltb (count_run bs) 3 && fits_names ns) same ∙ rest)
+
 fits_plain_head : (h : Head) → fits_head h ≡ true → fits_head (plain_head h) ≡ true
 fits_plain_head h k =
-    let tail = fits_name h.name && (fits_names (names_head h) && fits_number h.bound) in
-    both (fits_queries (plain_queries h.queries)) (fits_name h.name && (fits_names (names_head (plain_head h)) && fits_number h.bound))
+    let last = fits_name h.name && (fits_names (names_head h) && fits_number h.bound) in
+    let tail = fits_blocks h.queries h.blocks && last in
+    let rest = right_of (fits_queries h.queries) tail k in
+    let plain_last = fits_name h.name && (fits_names (names_head (plain_head h)) && fits_number h.bound) in
+    both (fits_queries (plain_queries h.queries)) (fits_blocks (plain_queries h.queries) (plain_blocks h.blocks) && plain_last)
     (fits_plain_queries h.queries (left_of (fits_queries h.queries) tail k))
-    (ap (λ ns. fits_name h.name && (fits_names ns && fits_number h.bound)) (names_plain_head h) ∙ right_of (fits_queries h.queries) tail k)
+    (both (fits_blocks (plain_queries h.queries) (plain_blocks h.blocks)) plain_last (fits_plain_blocks h.queries h.blocks (left_of (fits_blocks h.queries h.blocks) last rest))
+    (ap (λ ns. fits_name h.name && (fits_names ns && fits_number h.bound)) (names_plain_head h) ∙ right_of (fits_blocks h.queries h.blocks) last rest))
 
 fits_plain_body : (b : Body) → fits_body b ≡ true → fits_body (plain_body b) ≡ true
 fits_plain_body (Whole p) h = fits_plain_part p h

@@ -2,7 +2,6 @@
 use Rattle.std.proofs.Common.{◌≡◌, List, [], ◌∷◌, map, refl, ap, ◌∙◌}
 use Rattle.us_expr.specs.Tree.{tree}
 use Rattle.us_expr.proofs.Back.{tree_tells}
-use Rattle.us_expr.specs.declared.queries.Cond.{Cond}
 use Rattle.us_expr.specs.declared.queries.Query as asked
 use Rattle.us_expr.specs.declared.queries.Query.TheVariants as query
 use Rattle.us_decl.specs.declared.decl.Part.{Part}
@@ -51,28 +50,22 @@ part_tells a b e =
     part_is a b (ap (λ (p : DeclaredPart). p.names) e) (map_tells query_view query_tells a.queries b.queries (ap (λ (p : DeclaredPart). p.queries) e)) (map_tells tree tree_tells a.levels b.levels (ap (λ (p : DeclaredPart). p.levels) e))
     (ap (λ (p : DeclaredPart). p.trim) e) (ap (λ (p : DeclaredPart). p.merge) e) (ap (λ (p : DeclaredPart). p.packs) e)
 
-cond_is : (a b : Cond) → a.var ≡ b.var → a.less ≡ b.less → a.bound ≡ b.bound → a ≡ b
-cond_is a b var less bound =
-    ap (λ x. record { var = x; less = a.less; bound = a.bound }) var ∙ ap (λ x. record { var = b.var; less = x; bound = a.bound }) less ∙ ap (λ x. record { var = b.var; less = b.less; bound = x }) bound
-
-head_is : (a b : Head) → a.names ≡ b.names → a.queries ≡ b.queries → a.cond ≡ b.cond → a ≡ b
-head_is a b names queries cond_ =
-    ap (λ x. record { names = x; queries = a.queries; cond = a.cond }) names ∙ ap (λ x. record { names = b.names; queries = x; cond = a.cond }) queries ∙ ap (λ x. record { names = b.names; queries = b.queries; cond = x }) cond_
+head_is : (a b : Head) → a.names ≡ b.names → a.queries ≡ b.queries → a.conds ≡ b.conds → a ≡ b
+head_is a b names queries conds =
+    ap (λ x. record { names = x; queries = a.queries; conds = a.conds }) names ∙ ap (λ x. record { names = b.names; queries = x; conds = a.conds }) queries ∙ ap (λ x. record { names = b.names; queries = b.queries; conds = x }) conds
 
 head_tells : (a b : Head) → head_view a ≡ head_view b → a ≡ b
 head_tells a b e =
-    head_is a b (ap (λ (h : DeclaredHead). h.names) e) (map_tells query_view query_tells a.queries b.queries (ap (λ (h : DeclaredHead). h.queries) e))
-    (cond_is a.cond b.cond (ap (λ (h : DeclaredHead). h.var) e) (ap (λ (h : DeclaredHead). h.less) e) (ap (λ (h : DeclaredHead). h.bound) e))
+    head_is a b (ap (λ (h : DeclaredHead). h.names) e) (map_tells query_view query_tells a.queries b.queries (ap (λ (h : DeclaredHead). h.queries) e)) (ap (λ (h : DeclaredHead). h.conds) e)
 
 body_tells : (a b : Body) → body_view a ≡ body_view b → a ≡ b
 body_tells (bodies.One p) (bodies.One q) e = let h : part_view p ≡ part_view q = cc in ap bodies.One (part_tells p q h)
-body_tells (bodies.Two h p q) (bodies.Two i r s) e =
+body_tells (bodies.Split h ps) (bodies.Split i qs) e =
     let x : head_view h ≡ head_view i = cc in
-    let y : part_view p ≡ part_view r = cc in
-    let z : part_view q ≡ part_view s = cc in
-    ap (λ a. bodies.Two a p q) (head_tells h i x) ∙ ap (λ a. bodies.Two i a q) (part_tells p r y) ∙ ap (bodies.Two i r) (part_tells q s z)
-body_tells (bodies.One p) (bodies.Two i r s) e = absurd cc
-body_tells (bodies.Two h p q) (bodies.One r) e = absurd cc
+    let y : map part_view ps ≡ map part_view qs = cc in
+    ap (λ a. bodies.Split a ps) (head_tells h i x) ∙ ap (bodies.Split i) (map_tells part_view part_tells ps qs y)
+body_tells (bodies.One p) (bodies.Split i qs) e = absurd cc
+body_tells (bodies.Split h ps) (bodies.One r) e = absurd cc
 
 decl_is : (a b : Decl) → a.name ≡ b.name → a.body ≡ b.body → a ≡ b
 decl_is a b name body = ap (λ x. record { name = x; body = a.body }) name ∙ ap (λ x. record { name = b.name; body = x }) body

@@ -1,12 +1,13 @@
 -- The canonical text of a declaration.
-use Rattle.std.specs.Prelude.{ℕ, zero, suc, List, [], ◌∷◌, ◌++◌, codes, Bool, true, false}
+use Rattle.std.specs.Prelude.{ℕ, zero, suc, List, [], ◌∷◌, ◌++◌, drop, codes, Bool, true, false}
 use Rattle.std.specs.List.{slice_index_or}
 use Rattle.std.specs.Fmt.{decimal}
 use Rattle.std.specs.List.{flat_map, join_by}
 use Rattle.us_expr.specs.Tree.{Tree, RowIndex, ColIndex, Number, Variable, Sum, Difference, Quotient, Remainder}
+use Rattle.us_expr.specs.declared.queries.Cond.{Cond}
 use Rattle.us_decl.specs.declared.column.Column.{Column}
 use Rattle.us_decl.specs.declared.column.Column.TheVariants.{Level, Val}
-use Rattle.us_decl.specs.Declares.{Query, SumOf, EnumerateOf, ReorderOf, ScheduleOf, DeclaredPart, DeclaredHead, DeclaredBody, Undivided, Divided, Declared}
+use Rattle.us_decl.specs.Declares.{Query, SumOf, EnumerateOf, ReorderOf, ScheduleOf, DeclaredPart, DeclaredBody, Undivided, Divided, Declared}
 
 -- a comma and a space
 abbrev pub comma : List ℕ
@@ -83,15 +84,26 @@ abbrev pub sign_text : Bool → List ℕ
 sign_text true = codes " < "
 sign_text false = codes " >= "
 
-abbrev pub condition_text : List (List ℕ) → ℕ → Bool → ℕ → List ℕ
-condition_text ns v less bound = name_text ns v ++ (sign_text less ++ decimal bound)
+abbrev pub condition_text : List (List ℕ) → Cond → List ℕ
+condition_text ns c = name_text ns c.var ++ (sign_text c.less ++ decimal c.bound)
 
-abbrev pub head_lines : DeclaredHead → List ℕ
-head_lines h = queries_lines 1 h.names h.queries ++ line 1 (codes "part when " ++ (condition_text h.names h.var h.less h.bound ++ codes " {"))
+-- the line that opens a part: that of the first of these conditions, or that of the rest where there is none
+abbrev pub opening_line : List (List ℕ) → List Cond → List ℕ
+opening_line ns [] = line 1 (codes "rest {")
+opening_line ns (c ∷ cs) = line 1 (codes "part when " ++ (condition_text ns c ++ codes " {"))
+
+-- a part behind its opening line, and its brace
+abbrev pub block_lines : DeclaredPart → List ℕ
+block_lines p = part_lines 2 p ++ line 1 (codes "}")
+
+-- a part for each condition, and the part of the rest
+abbrev pub blocks_lines : List (List ℕ) → List Cond → List DeclaredPart → List ℕ
+blocks_lines ns cs [] = []
+blocks_lines ns cs (p ∷ ps) = (opening_line ns cs ++ block_lines p) ++ blocks_lines ns (drop 1 cs) ps
 
 abbrev pub body_lines : DeclaredBody → List ℕ
 body_lines (Undivided p) = part_lines 1 p
-body_lines (Divided h p q) = head_lines h ++ (part_lines 2 p ++ (line 1 (codes "}") ++ (line 1 (codes "rest {") ++ (part_lines 2 q ++ line 1 (codes "}")))))
+body_lines (Divided h ps) = queries_lines 1 h.names h.queries ++ blocks_lines h.names h.conds ps
 
 -- all but the last brace and the end of its line
 abbrev pub open_text : Declared → List ℕ

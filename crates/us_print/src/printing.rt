@@ -1,11 +1,12 @@
 //! The canonical text of a declaration.
 
-ghost use Rattle.std.specs.Prelude.{◌≡◌, ◌++◌, ◌∷◌, [], OnOk, IfOk, codes, length, map};
+ghost use Rattle.std.specs.Prelude.{◌≡◌, ◌++◌, ◌∷◌, [], OnOk, IfOk, codes, length, map, drop};
 ghost use Rattle.std.specs.Fmt.{decimal};
 ghost use Rattle.std.specs.List.{join_by, flat_map};
 ghost use Rattle.us_expr.specs.Tree.{tree};
+ghost use Rattle.us_decl.specs.Declares.{Divided};
 ghost use Rattle.us_decl.specs.Views.{query_view, part_view, head_view, body_view, decl_view};
-ghost use Rattle.us_print.specs.Canon.{comma, name_text, is_sum, parenthesized, expr_text, asked_text, query_text, column_text, indent, line, numbers_line, queries_lines, pack_text, map_text, storage_lines, part_lines, sign_text, condition_text, head_lines, body_lines, decl_text};
+ghost use Rattle.us_print.specs.Canon.{comma, name_text, is_sum, parenthesized, expr_text, asked_text, query_text, column_text, indent, line, numbers_line, queries_lines, pack_text, map_text, storage_lines, part_lines, sign_text, condition_text, opening_line, block_lines, blocks_lines, body_lines, decl_text};
 
 use itoa::Buffer;
 use std::alloc::{AllocError, Global};
@@ -300,21 +301,11 @@ fn push_part(out: &mut Vec<u8>, depth: u32, part: &Part) -> Result<(), AllocErro
 
 /// The name of the condition and what it is compared with.
 fn push_condition(out: &mut Vec<u8>, names: &[Name], cond: Cond) -> Result<(), AllocError>
-    ensures { OnOk result (out.new.items ≡ out.old.items ++ condition_text names.now cond.var cond.less cond.bound) }
+    ensures { OnOk result (out.new.items ≡ out.old.items ++ condition_text names.now cond) }
 {
     push_name(out, names, cond.var)?;
     push_sign(out, cond.less)?;
     push_number(out, cond.bound)
-}
-
-fn push_head(out: &mut Vec<u8>, head: &Head) -> Result<(), AllocError>
-    ensures { OnOk result (out.new.items ≡ out.old.items ++ head_lines (head_view head.now)) }
-{
-    let names = head.names.as_slice();
-    push_queries(out, 1, names, head.queries.as_slice())?;
-    out.extend_from_slice(b"  part when ")?;
-    push_condition(out, names, head.cond)?;
-    out.extend_from_slice(b" {\n")
 }
 
 fn push_sign(out: &mut Vec<u8>, less: bool) -> Result<(), AllocError>
@@ -327,17 +318,66 @@ fn push_sign(out: &mut Vec<u8>, less: bool) -> Result<(), AllocError>
     }
 }
 
+fn push_when(out: &mut Vec<u8>, names: &[Name], cond: Cond) -> Result<(), AllocError>
+    ensures { OnOk result (out.new.items ≡ out.old.items ++ opening_line names.now (cond ∷ [])) }
+{
+    out.extend_from_slice(b"  part when ")?;
+    push_condition(out, names, cond)?;
+    out.extend_from_slice(b" {\n")
+}
+
+/// The line that opens a part, by its place: that of its condition, or that of the rest.
+fn push_opening(
+    out: &mut Vec<u8>,
+    names: &[Name],
+    conds: &[Cond],
+    place: usize,
+) -> Result<(), AllocError>
+    ensures { OnOk result (out.new.items ≡ out.old.items ++ opening_line names.now (drop place conds.now)) }
+{
+    match conds.get(place) {
+        Some(cond) => push_when(out, names, *cond),
+        None => out.extend_from_slice(b"  rest {\n"),
+    }
+}
+
+/// A part behind its opening line.
+fn push_block(out: &mut Vec<u8>, part: &Part) -> Result<(), AllocError>
+    ensures { OnOk result (out.new.items ≡ out.old.items ++ block_lines (part_view part.now)) }
+{
+    push_part(out, 2, part)?;
+    out.extend_from_slice(b"  }\n")
+}
+
+/// A part for each condition, and the part of the rest.
+fn push_blocks(
+    out: &mut Vec<u8>,
+    names: &[Name],
+    conds: &[Cond],
+    parts: &[Part],
+) -> Result<(), AllocError>
+    ensures { OnOk result (out.new.items ≡ out.old.items ++ blocks_lines names.now conds.now (map part_view parts.now)) }
+{
+    for (place, part) in parts.iter().enumerate() {
+        push_opening(out, names, conds, place)?;
+        push_block(out, part)?;
+    }
+    Ok(())
+}
+
+fn push_divided(out: &mut Vec<u8>, head: &Head, parts: &[Part]) -> Result<(), AllocError>
+    ensures { OnOk result (out.new.items ≡ out.old.items ++ body_lines (Divided (head_view head.now) (map part_view parts.now))) }
+{
+    let names = head.names.as_slice();
+    push_queries(out, 1, names, head.queries.as_slice())?;
+    push_blocks(out, names, head.conds.as_slice(), parts)
+}
+
 fn push_body(out: &mut Vec<u8>, body: &Body) -> Result<(), AllocError>
     ensures { OnOk result (out.new.items ≡ out.old.items ++ body_lines (body_view body.now)) }
 {
     match body {
         Body::One(part) => push_part(out, 1, part),
-        Body::Two { head, first, rest } => {
-            push_head(out, head)?;
-            push_part(out, 2, first)?;
-            out.extend_from_slice(b"  }\n  rest {\n")?;
-            push_part(out, 2, rest)?;
-            out.extend_from_slice(b"  }\n")
-        }
+        Body::Split { head, parts } => push_divided(out, head, parts.as_slice()),
     }
 }

@@ -224,7 +224,7 @@ fn each_hop_is_within_the_limit(rt: HostRuntime) -> Result<(), Fail> {
 }
 
 /// What `check` says of a library, for 3 rows and 4 columns: the answer's line, and what is printed.
-const LIBRARIES: [(&str, &str, &str); 21] = [
+const LIBRARIES: [(&str, &str, &str); 22] = [
     ("# nothing yet\n", "ok", ""),
     ("format", "formats form 6", ""),
     ("format f { }", "formats form 11", ""),
@@ -300,6 +300,11 @@ const LIBRARIES: [(&str, &str, &str); 21] = [
         "format f { let n = sum(i) part when n < 2 { map (i, j) } rest { map (i, j) } }",
         "ok",
         "f refused J14 part 0 place 0\n",
+    ),
+    (
+        "format f { let n = sum(i) part when n < 2 { map (i, j) } part when m < 3 { map (i, j) } rest { map (i, j) } }",
+        "ok",
+        "f refused J2 part 0 place 2\n",
     ),
     (
         "format f { map (i % 4, i / 4, j) }",

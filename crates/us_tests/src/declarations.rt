@@ -67,7 +67,7 @@ fn the_worked_library_is_read_and_printed(rt: HostRuntime) {
 }
 
 /// Texts with a fault, which is at this place.
-const FAULTS: [(&[u8], DeclFault); 15] = [
+const FAULTS: [(&[u8], DeclFault); 17] = [
     (b"format x {", DeclFault::Form { place: 10 }),
     (
         b"format x { map (i / 0, j) }",
@@ -97,6 +97,15 @@ const FAULTS: [(&[u8], DeclFault); 15] = [
     (
         b"format a { map (i) } format a * broken",
         DeclFault::Repeated { place: 28 },
+    ),
+    // a fourth condition, and none that a rest stands behind
+    (
+        b"format x { part when n < 1 { map () } part when n < 2 { map () } part when n < 3 { map () } part when n < 4 { map () } rest { map () } }",
+        DeclFault::TooBig { place: 92 },
+    ),
+    (
+        b"format x { part when n < 1 { map () } part when n < 2 { map () } }",
+        DeclFault::Form { place: 65 },
     ),
     // a 33rd node, by a divisor and by an operand
     (
@@ -182,7 +191,7 @@ fn one_text(alloc: Global, text: &[u8], from: usize) -> (Vec<u8>, usize) {
 }
 
 /// Texts, each with the canonical text of its declaration.
-const TEXTS: [(&[u8], &[u8]); 4] = [
+const TEXTS: [(&[u8], &[u8]); 5] = [
     (
         b"format bcsr{map(i/2,j/2,i%002,(j%2))trim 1 merge 1}x",
         b"format bcsr {\n  map (i / 2, j / 2, i % 2, j % 2)\n  trim 1\n  merge 1\n}\n",
@@ -198,6 +207,10 @@ const TEXTS: [(&[u8], &[u8]); 4] = [
     (
         b" # none\nformat heavy { let n = sum(i) part when n >= 02 { map () } rest { map (reorder_) } }",
         b"format heavy {\n  let n = sum(i)\n  part when n >= 2 {\n    map ()\n  }\n  rest {\n    map (reorder_)\n  }\n}\n",
+    ),
+    (
+        b"format by_weight { let n = sum(i) part when n >= 100 { map (i, j) trim 0 merge 0 } part when n >= 2 { map (i, j) trim 0, 1 merge 0, 1 } part when n < 1 { map (i) } rest { map (i, j) } }",
+        b"format by_weight {\n  let n = sum(i)\n  part when n >= 100 {\n    map (i, j)\n    trim 0\n    merge 0\n  }\n  part when n >= 2 {\n    map (i, j)\n    trim 0, 1\n    merge 0, 1\n  }\n  part when n < 1 {\n    map (i)\n  }\n  rest {\n    map (i, j)\n  }\n}\n",
     ),
 ];
 

@@ -2,6 +2,10 @@
 #![tactic(auto)]
 
 #[cfg(test)]
+mod code_rules;
+#[cfg(test)]
+mod code_texts;
+#[cfg(test)]
 mod commands;
 #[cfg(test)]
 mod containers;
@@ -13,6 +17,10 @@ mod expressions;
 mod matrix_files;
 #[cfg(test)]
 mod outside;
+#[cfg(test)]
+mod queries;
+#[cfg(test)]
+mod regions;
 #[cfg(test)]
 mod runs;
 #[cfg(test)]

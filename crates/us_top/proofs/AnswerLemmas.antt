@@ -1,26 +1,20 @@
 -- Answers of steps as answers of commands.
-use Rattle.std.proofs.Common.{◌≡◌, ℕ, ◌+◌, ◌-◌, ◌^◌, ◌≤◌, min, ◌⊎◌, List, [], ◌∷◌, Option, Some, None, IfSome, Result, Ok, Err, refl, sym, ap, ◌∙◌, subst, inl, inr, arith}
+use Rattle.std.proofs.Common.{◌≡◌, ◌≢◌, ℕ, ◌++◌, List, [], ◌∷◌, Option, Some, None, IfSome, Result, Err, refl, sym, ap, ◌∙◌, subst, inl, inr}
 use Rattle.us_outside.specs.Causes.{Faults, NeverFell}
-use Rattle.us_outside.specs.Files.{Files}
+use Rattle.us_outside.specs.declared.outside.Call.TheVariants.{Fetch}
 use Rattle.us_top.specs.declared.status.Slot.{Slot}
 use Rattle.us_top.specs.declared.status.Status.{Status}
 use Rattle.us_top.specs.declared.status.Status.TheVariants.{Done, Words, ReadFault, WriteFault, Memory}
-use Rattle.us_top.specs.Commands.{Command, Use, reads}
-use Rattle.us_top.specs.Steps.{then_step}
-use Rattle.us_top.specs.Outcome.{Outcome}
-use Rattle.us_top.specs.Answers.{IsOneOf, IsAnswer, IsCaused, IsRefusal, IsStep, RoseAt, SomeUse, status_of}
-use Rattle.us_top.specs.Stands.{Stands}
-use Rattle.us_top.specs.Headline.{MeansInput, DoneMeans}
+use Rattle.us_top.specs.Commands.{Use, reads}
+use Rattle.us_top.specs.Steps.{status_of, then_step}
+use Rattle.us_top.specs.Answers.{IsOneOf, IsAnswer, IsCaused, IsPlainOrMemory, IsRefusal, IsStep, NoneRose, RoseAt, SomeUse}
+use Rattle.us_top.proofs.EndingLemmas.{some_before, some_in_front}
 
 -- ---- options
 
 pub both : {X : Type 0} (o : Option X) {P Q R : X → Type 0} → IfSome o P → IfSome o Q → ((x : X) → P x → Q x → R x) → IfSome o R
 both None p q f = p
 both (Some x) p q f = f x p q
-
-pub itself : {X : Type 0} (o : Option X) → IfSome o (λ x. o ≡ Some x)
-itself None = tt
-itself (Some x) = refl
 
 -- ---- steps
 
@@ -49,23 +43,13 @@ end_answer reached plain (ReadFault slot) e h = absurd h
 end_answer reached plain (WriteFault slot) e h = e
 end_answer reached plain status e h = h ∙ sym e
 
--- ---- causes
-
-rose_before : (a b c : ℕ) → a ≤ b → min (b + 1) (2 ^ 64 - 1) ≤ c → min (a + 1) (2 ^ 64 - 1) ≤ c
-rose_before a b c h r = omega arith
-
--- a count that rose later rose
-pub some_before : (X : Use → Type 0) (slot : Slot) (before middle now : Faults) (us : List Use) → NeverFell before middle → SomeUse (λ u. (u.slot ≡ slot) × X u × RoseAt middle now u) us
-    → SomeUse (λ u. (u.slot ≡ slot) × X u × RoseAt before now u) us
-some_before X slot before middle now [] later h = h
-some_before X slot before middle now (u ∷ us) later (inl h) = inl (h.0, h.1, rose_before (before u.call u.name) (middle u.call u.name) (now u.call u.name) (later u.call u.name) h.2)
-some_before X slot before middle now (u ∷ us) later (inr h) = inr (some_before X slot before middle now us later h)
+-- ---- refusals
 
 pub refusal_before : (before middle now : Faults) (us : List Use) (status : Status) → NeverFell before middle → IsRefusal us middle now status → IsRefusal us before now status
 refusal_before before middle now us Done later h = h
 refusal_before before middle now us Words later h = h
 refusal_before before middle now us (WriteFault slot) later h = h
-refusal_before before middle now us (ReadFault slot) later h = some_before _ slot before middle now us later h
+refusal_before before middle now us (ReadFault slot) later h = some_before (λ u. u.call ≡ Fetch) slot before middle now us later h
 refusal_before before middle now us status later h = tt
 
 pub refusal_behind : (before now : Faults) (u : Use) (us : List Use) (status : Status) → IsRefusal us before now status → IsRefusal (u ∷ us) before now status
@@ -75,50 +59,52 @@ refusal_behind before now u us (WriteFault slot) h = h
 refusal_behind before now u us (ReadFault slot) h = inr h
 refusal_behind before now u us status h = tt
 
-one_in_front : (P : Use → Type 0) (u : Use) (us : List Use) → SomeUse P (u ∷ []) → SomeUse P (u ∷ us)
-one_in_front P u us (inl h) = inl h
-one_in_front P u us (inr none) = absurd none
-
-pub refusal_in_front : (before now : Faults) (u : Use) (us : List Use) (status : Status) → IsRefusal (u ∷ []) before now status → IsRefusal (u ∷ us) before now status
-refusal_in_front before now u us Done h = h
-refusal_in_front before now u us Words h = h
-refusal_in_front before now u us (WriteFault slot) h = h
-refusal_in_front before now u us (ReadFault slot) h = one_in_front _ u us h
-refusal_in_front before now u us status h = tt
-
-two_in_front : (P : Use → Type 0) (u w : Use) (us : List Use) → SomeUse P (u ∷ w ∷ []) → SomeUse P (u ∷ w ∷ us)
-two_in_front P u w us (inl h) = inl h
-two_in_front P u w us (inr (inl h)) = inr (inl h)
-two_in_front P u w us (inr (inr none)) = absurd none
+pub refusal_in_front : (before now : Faults) (us more : List Use) (status : Status) → IsRefusal us before now status → IsRefusal (us ++ more) before now status
+refusal_in_front before now us more Done h = h
+refusal_in_front before now us more Words h = h
+refusal_in_front before now us more (WriteFault slot) h = h
+refusal_in_front before now us more (ReadFault slot) h = some_in_front _ us more h
+refusal_in_front before now us more status h = tt
 
 -- a refusal has its cause
-pub refusal_caused : (before now : Faults) (u w : Use) (us : List Use) (status : Status) → IsRefusal (u ∷ w ∷ []) before now status → IsCaused (u ∷ w ∷ us) before now status
-refusal_caused before now u w us (ReadFault slot) h = two_in_front _ u w us h
-refusal_caused before now u w us (WriteFault slot) h = absurd h
-refusal_caused before now u w us status h = tt
+pub refusal_caused : (before now : Faults) (us more : List Use) (status : Status) → IsRefusal us before now status → IsCaused (us ++ more) before now status
+refusal_caused before now us more (ReadFault slot) h = some_in_front _ us more h
+refusal_caused before now us more (WriteFault slot) h = absurd h
+refusal_caused before now us more status h = tt
 
--- the end of a command behind two reads has its cause
-pub end_caused : (before middle now : Faults) (u w : Use) (us : List Use) (status : Status) → NeverFell before middle → IsCaused us middle now status → IsCaused (u ∷ w ∷ us) before now status
-end_caused before middle now u w us (ReadFault slot) later h = inr (inr (some_before _ slot before middle now us later h))
-end_caused before middle now u w us (WriteFault slot) later h = inr (inr (some_before _ slot before middle now us later h))
-end_caused before middle now u w us status later h = tt
+pub refusal_words : (before now : Faults) (us : List Use) (status : Status) → IsRefusal us before now status → status ≢ Words
+refusal_words before now us Words h e = h
+refusal_words before now us status h e = cc
 
--- ---- what stands
+-- ---- the end of a command
 
--- a refusal leaves all as it was
-pub refusal_stands : (o : Outcome) (before now : Faults) (us : List Use) (status : Status) (fs : Files) (printed : Option (List ℕ)) (fs' : Option Files) (printed' : Option (List ℕ))
-    → IsRefusal us before now status → fs' ≡ Some fs → printed' ≡ printed → Stands o status fs printed fs' printed'
-refusal_stands o before now us Done fs printed fs' printed' h f p = absurd h
-refusal_stands o before now us (WriteFault slot) fs printed fs' printed' h f p = absurd h
-refusal_stands o before now us Memory fs printed fs' printed' h f p = inl (f, p)
-refusal_stands o before now us status fs printed fs' printed' h f p = (f, p)
+some_last : (P : Use → Type 0) (front us : List Use) → SomeUse P us → SomeUse P (front ++ us)
+some_last P [] us h = h
+some_last P (u ∷ front) us h = inr (some_last P front us h)
 
--- ---- what a conversion means
+-- the end of a command behind its reads has its cause
+pub end_caused : (before middle now : Faults) (front us : List Use) (status : Status) → NeverFell before middle → IsCaused us middle now status → IsCaused (front ++ us) before now status
+end_caused before middle now front us (ReadFault slot) later h =
+    some_last (λ u. (u.slot ≡ slot) × (u.call ≡ Fetch) × RoseAt before now u) front us (some_before (λ u. u.call ≡ Fetch) slot before middle now us later h)
+end_caused before middle now front us (WriteFault slot) later h =
+    some_last (λ u. (u.slot ≡ slot) × (u.call ≡ Fetch → ⊥) × RoseAt before now u) front us (some_before (λ u. u.call ≡ Fetch → ⊥) slot before middle now us later h)
+end_caused before middle now front us status later h = tt
 
-pub done_means : (status : Status) (command : Command) (fs : Files) → MeansInput command fs → DoneMeans status command fs
-done_means Done command fs h = h
-done_means status command fs h = tt
+pub end_words : (status : Status) → IsAnswer [] Done status → status ≢ Words
+end_words Words h e = cc
+end_words status h e = cc
 
-pub refusal_means : (before now : Faults) (us : List Use) (status : Status) (command : Command) (fs : Files) → IsRefusal us before now status → DoneMeans status command fs
-refusal_means before now us Done command fs h = absurd h
-refusal_means before now us status command fs h = tt
+-- ---- completeness
+
+none_of : (slot : Slot) (X : Use → Type 0) (before now : Faults) (us : List Use) → NoneRose us before now → SomeUse (λ u. (u.slot ≡ slot) × X u × RoseAt before now u) us → ⊥
+none_of slot X before now [] none h = h
+none_of slot X before now (u ∷ us) none (inl h) = none.0 h.2
+none_of slot X before now (u ∷ us) none (inr h) = none_of slot X before now us none.1 h
+
+-- an answer with a cause, where there is no cause
+pub plain_or_memory : (reached : List Slot) (plain : Status) (us : List Use) (before now : Faults) (status : Status) → IsCaused us before now status → NoneRose us before now
+    → IsAnswer reached plain status → IsPlainOrMemory plain status
+plain_or_memory reached plain us before now Memory c n a = inr refl
+plain_or_memory reached plain us before now (ReadFault slot) c n a = absurd (none_of slot (λ u. u.call ≡ Fetch) before now us n c)
+plain_or_memory reached plain us before now (WriteFault slot) c n a = absurd (none_of slot (λ u. u.call ≡ Fetch → ⊥) before now us n c)
+plain_or_memory reached plain us before now status c n a = inl a

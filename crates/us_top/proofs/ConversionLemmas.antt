@@ -1,8 +1,7 @@
 -- The sizes of the hops, one after the other, and what a conversion writes.
-use Rattle.std.proofs.Common.{◌≡◌, ℕ, suc, ◌+◌, ◌<◌, ◌≤◌, min, nat_le, cond, Bool, true, false, List, [], ◌∷◌, ◌++◌, length, map, drop, take, get_or, Result, Ok, Err, refl, sym, ap, ◌∙◌, subst, append_assoc, add-one, arith}
-use Rattle.std.specs.List.{flat_map}
+use Rattle.std.proofs.Common.{◌≡◌, ℕ, suc, ◌+◌, ◌<◌, ◌≤◌, min, nat_le, cond, Bool, true, false, List, [], ◌∷◌, ◌++◌, length, drop, get_or, Result, Ok, Err, refl, sym, ap, ◌∙◌, subst, append_assoc, add-one, arith}
 use Rattle.std.proofs.lemmas.Bool.Decides.{nat_tests}
-use Rattle.std.proofs.lemmas.Bool.{leb-true, false≢true}
+use Rattle.std.proofs.lemmas.Bool.{leb-true}
 use Rattle.std.proofs.lemmas.List.{at_drop_more, at_drop_all, append-nil}
 use Rattle.us_matrix.specs.Map.{Map}
 use Rattle.std.specs.Prelude.{codes}
@@ -93,10 +92,10 @@ last_written m [] d = refl
 last_written m (x ∷ []) d = refl
 last_written m (x ∷ y ∷ ds) d = last_written m (y ∷ ds) d
 
-pub last_meant : (m : Map) (ds : List Declared) (d : Declared) → IsMeant m d → LastIsMeant false m (ds ++ (d ∷ []))
-last_meant m [] d h = h
-last_meant m (x ∷ []) d h = h
-last_meant m (x ∷ y ∷ ds) d h = last_meant m (y ∷ ds) d h
+last_meant : (m : Map) (ds : List Declared) (d : Declared) (bytes : List ℕ) → IsMeant m d bytes → LastIsMeant false m (ds ++ (d ∷ [])) bytes
+last_meant m [] d bytes h = h
+last_meant m (x ∷ []) d bytes h = h
+last_meant m (x ∷ y ∷ ds) d bytes h = last_meant m (y ∷ ds) d bytes h
 
 pub container_is : (h : Held) (d : Declared) (m : Map) → IsHeld h → h.declared ≡ d → h.matrix ≡ m → container_bytes h.declared h.matrix.rows h.matrix.cols h.buffers ≡ container_of m d
 container_is h d m held e f =
@@ -106,5 +105,13 @@ pub written_last : (chain : List ℕ) (ds xs : List Declared) (d : Declared) (m 
 written_last chain ds xs d m t e =
     sym (ap (λ l. written chain l m) e ∙ ap (λ b. cond b (text m) (last_container m (xs ++ (d ∷ [])))) (sym t) ∙ last_written m xs d)
 
-pub meant_last : (chain : List ℕ) (ds xs : List Declared) (d : Declared) (m : Map) → false ≡ ends_in_text chain → ds ≡ xs ++ (d ∷ []) → IsMeant m d → LastIsMeant (ends_in_text chain) m ds
-meant_last chain ds xs d m t e h = subst (λ b. LastIsMeant b m ds) t (subst (λ l. LastIsMeant false m l) (sym e) (last_meant m xs d h))
+pub meant_last : (chain : List ℕ) (ds xs : List Declared) (d : Declared) (m : Map) (bytes : List ℕ) → false ≡ ends_in_text chain → ds ≡ xs ++ (d ∷ []) → IsMeant m d bytes
+    → LastIsMeant (ends_in_text chain) m ds bytes
+meant_last chain ds xs d m bytes t e h = subst (λ b. LastIsMeant b m ds bytes) t (subst (λ l. LastIsMeant false m l bytes) (sym e) (last_meant m xs d bytes h))
+
+-- no container is written
+pub text_meant : (chain : List ℕ) (ds : List Declared) (m : Map) (bytes : List ℕ) → true ≡ ends_in_text chain → LastIsMeant (ends_in_text chain) m ds bytes
+text_meant chain ds m bytes t = subst (λ b. LastIsMeant b m ds bytes) t tt
+
+pub no_format_meant : (chain : List ℕ) (ds : List Declared) (m : Map) (bytes : List ℕ) → false ≡ ends_in_text chain → ds ≡ [] → LastIsMeant (ends_in_text chain) m ds bytes
+no_format_meant chain ds m bytes t e = subst (λ b. LastIsMeant b m ds bytes) t (subst (λ l. LastIsMeant false m l bytes) (sym e) tt)

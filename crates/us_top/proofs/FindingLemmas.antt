@@ -15,7 +15,7 @@ use Rattle.us_decl.specs.Declares.{Declared, IsValid}
 use Rattle.us_decl.specs.Names.{same_name, number_of}
 use Rattle.us_decl.specs.Views.{decl_view, decl_names}
 use Rattle.us_top.specs.declared.status.Status.{Status}
-use Rattle.us_top.specs.declared.status.Status.TheVariants.{UnknownName, Refused, Memory, ReadFault}
+use Rattle.us_top.specs.declared.status.Status.TheVariants.{UnknownName, Memory, ReadFault}
 use Rattle.us_top.specs.Steps.{then_step, find, found, find_all, judged, judge_all, judged_all}
 use Rattle.us_top.specs.Answers.{IsStep}
 

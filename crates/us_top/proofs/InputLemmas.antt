@@ -1,5 +1,5 @@
 -- Reading the input or the library in a file.
-use Rattle.std.proofs.Common.{◌≡◌, ℕ, ◌+◌, ◌-◌, ◌<◌, ◌≤◌, ◌&&◌, nat_lt, take, Bool, true, false, cond, List, [], ◌∷◌, length, map, get_or, All, Ok, Err, Result, None, refl, sym, ap, ◌∙◌, subst, inl, inr, arith}
+use Rattle.std.proofs.Common.{◌≡◌, ℕ, ◌+◌, ◌-◌, ◌<◌, ◌≤◌, ◌&&◌, nat_lt, Bool, true, false, cond, List, [], ◌∷◌, length, map, get_or, All, Ok, Err, Result, None, refl, sym, ap, ◌∙◌, subst, inl, inr, arith}
 use Rattle.std.proofs.lemmas.Bool.{cases_lt, false≢true}
 use Rattle.std.proofs.lemmas.Bool.Decides.{nat_tests, same_from_decides}
 use Rattle.std.specs.Str.{bytes_eq}
@@ -9,7 +9,7 @@ use Rattle.us_matrix.specs.Map.{Map}
 use Rattle.us_mm.specs.declared.fault.MmFault.{MmFault}
 use Rattle.us_mm.specs.declared.fault.MmFault.TheVariants as mm
 use Rattle.us_mm.specs.Reads.{matrix_in}
-use Rattle.us_mm.specs.Views.{IsFaultOf, Gives}
+use Rattle.us_mm.specs.Views.{IsFaultOf}
 use Rattle.us_decl.specs.declared.library.Library.{Library}
 use Rattle.us_parse.specs.declared.parsed.DeclFault.{DeclFault}
 use Rattle.us_parse.specs.declared.parsed.DeclFault.TheVariants as decl
@@ -25,14 +25,13 @@ use Rattle.us_matrix.specs.declared.matrix.Triple.{Triple}
 use Rattle.us_format.specs.Program.{plain_entry, shape_in, entries_in}
 use Rattle.us_container.specs.declared.fault.ContainerFault.{ContainerFault}
 use Rattle.us_container.specs.declared.fault.ContainerFault.TheVariants as container
-use Rattle.us_container.specs.Bytes.{magic}
 use Rattle.us_container.specs.Contained.{Contained, IsContained, TellsContained, contained_in}
 use Rattle.us_check.specs.declared.held.Held.{Held}
 use Rattle.us_outside.specs.Causes.{Faults}
 use Rattle.us_top.specs.declared.status.Status.TheVariants.{Done, Words, TooLong, Memory, ReadFault, WriteFault}
 use Rattle.us_top.specs.Commands.{Use}
 use Rattle.us_top.specs.Library.{library_in, told}
-use Rattle.us_top.specs.Steps.{Input, OfFile, OfContainer, of_file, bytes_at, matrix_step, container_step, library_step, read_input, map_of, triple_of}
+use Rattle.us_top.specs.Steps.{Input, OfContainer, of_file, bytes_at, matrix_step, container_step, is_container, library_step, read_input, map_of, triple_of}
 use Rattle.us_top.specs.Answers.{IsStep, IsRefusal, IsInnerRefusal, refusal_of, formats_refusal_of, container_refusal_of}
 use Rattle.us_top.specs.Views.{contained_of}
 
@@ -90,22 +89,43 @@ pub eq_turned : (xs ys : List ℕ) → bytes_eq xs ys ≡ bytes_eq ys xs
 eq_turned xs ys =
     same_from_decides (bytes_eq xs ys) (bytes_eq ys xs) (bytes_eq-Decides xs ys) (λ h. sym ((bytes_eq-Decides ys xs).0 h), λ e. (bytes_eq-Decides ys xs).1 (sym e))
 
-by_magic : (slot : Slot) (bytes : List ℕ) (b : Bool) → b ≡ bytes_eq magic (take 7 bytes) → read_input slot bytes ≡ cond b (container_step (contained_in bytes)) (matrix_step slot (matrix_in bytes))
-by_magic slot bytes b h = ap (λ t. cond t (container_step (contained_in bytes)) (matrix_step slot (matrix_in bytes))) (eq_turned (take 7 bytes) magic ∙ sym h)
+-- a file that isn't too long is read
+pub in_length : {A : Type 0} (slot : Slot) (bytes : List ℕ) (read : Result A Status) → length bytes ≤ 1073741824 → of_file slot bytes read ≡ read
+unfolding of_file
+in_length slot bytes read h =
+    let test : nat_lt 1073741824 (length bytes) ≡ false = grind (arith, nat_tests) in
+    ap (λ b. cond b (Err (TooLong slot)) read) test
 
-pub matrix_read : (slot : Slot) (bytes : List ℕ) (b : Bool) (m : Map) → b ≡ bytes_eq magic (take 7 bytes) → b ≡ false → matrix_in bytes ≡ Ok m → read_input slot bytes ≡ Ok (OfFile m)
-matrix_read slot bytes b m e f h = by_magic slot bytes b e ∙ ap (λ t. cond t (container_step (contained_in bytes)) (matrix_step slot (matrix_in bytes))) f ∙ ap (matrix_step slot) h
+pub read_as_container : (slot : Slot) (bytes : List ℕ) → true ≡ is_container bytes → read_input slot bytes ≡ container_step (contained_in bytes)
+read_as_container slot bytes h = ap (λ t. cond t (container_step (contained_in bytes)) (matrix_step slot (matrix_in bytes))) (sym h)
+
+pub read_as_matrix : (slot : Slot) (bytes : List ℕ) → false ≡ is_container bytes → read_input slot bytes ≡ matrix_step slot (matrix_in bytes)
+read_as_matrix slot bytes h = ap (λ t. cond t (container_step (contained_in bytes)) (matrix_step slot (matrix_in bytes))) (sym h)
+
+-- what a container gives that was loaded, and a matrix file that isn't too long
+pub container_behind : (slot : Slot) (content bytes : List ℕ) (r : Result Input Status) → bytes_at slot content ≡ Ok bytes → true ≡ is_container content → IsStep {A = Input} (container_step (contained_in bytes)) r
+    → IsStep {A = Input} (of_file slot content (read_input slot content)) r
+container_behind slot content bytes r loaded is h =
+    let read = read_behind {A = Input} slot content bytes (λ b. container_step (contained_in b)) loaded in
+    subst (λ p. IsStep {A = Input} p r) (sym (ap (of_file slot content) (read_as_container slot content is) ∙ read)) h
+
+pub matrix_behind : (slot : Slot) (content : List ℕ) (r : Result Input Status) → length content ≤ 1073741824 → false ≡ is_container content → IsStep {A = Input} (matrix_step slot (matrix_in content)) r
+    → IsStep {A = Input} (of_file slot content (read_input slot content)) r
+matrix_behind slot content r short is h = subst (λ p. IsStep {A = Input} p r) (sym (in_length slot content (read_input slot content) short ∙ read_as_matrix slot content is)) h
+
+-- a step that gives what the plain step gives
+pub same_step : {A : Type 0} (plain r : Result A Status) → plain ≡ r → IsStep {A = A} plain r
+same_step plain (Ok x) e = e
+same_step plain (Err Memory) e = tt
+same_step plain (Err (ReadFault slot)) e = tt
+same_step plain (Err status) e = e
 
 refused_matrix : (slot : Slot) (fault : MmFault) (read : Result Map MmFault) → IsFaultOf fault read → IsStep {A = Input} (matrix_step slot read) (Err (refusal_of slot fault))
 refused_matrix slot mm.Memory read h = tt
 refused_matrix slot fault read h = ap (matrix_step slot) h
 
-pub matrix_refused : (slot : Slot) (bytes : List ℕ) (b : Bool) (fault : MmFault) (status : Status) → b ≡ bytes_eq magic (take 7 bytes) → b ≡ false → status ≡ refusal_of slot fault → IsFaultOf fault (matrix_in bytes)
-    → IsStep {A = Input} (read_input slot bytes) (Err status)
-matrix_refused slot bytes b fault status e f s h =
-    let At : Result Input Status → Status → Type 0 = λ r t. IsStep {A = Input} r (Err t) in
-    let read = by_magic slot bytes b e ∙ ap (λ t. cond t (container_step (contained_in bytes)) (matrix_step slot (matrix_in bytes))) f in
-    subst (λ r. At r status) (sym read) (subst (At (matrix_step slot (matrix_in bytes))) (sym s) (refused_matrix slot fault (matrix_in bytes) h))
+pub matrix_refused : (slot : Slot) (fault : MmFault) (read : Result Map MmFault) (status : Status) → status ≡ refusal_of slot fault → IsFaultOf fault read → IsStep {A = Input} (matrix_step slot read) (Err status)
+matrix_refused slot fault read status s h = subst (λ t. IsStep {A = Input} (matrix_step slot read) (Err t)) (sym s) (refused_matrix slot fault read h)
 
 -- what a container holds is what the held matrix shows
 same_contained : (h : Held) (c : Contained) → IsContained h c → c ≡ contained_of h
@@ -116,21 +136,16 @@ same_contained h c is =
     ∙ ap (λ b. record { declared = c.declared; shape = c.shape; buffers = b; entries = entries_in h.matrix }) is.buffers
     ∙ ap (λ e. record { declared = c.declared; shape = c.shape; buffers = c.buffers; entries = e }) is.entries)
 
-pub container_read : (slot : Slot) (bytes : List ℕ) (b : Bool) (h : Held) → b ≡ bytes_eq magic (take 7 bytes) → b ≡ true → TellsContained (contained_in bytes) (Ok h) → read_input slot bytes ≡ Ok (OfContainer (contained_of h))
-container_read slot bytes b h e f t =
-    by_magic slot bytes b e ∙ ap (λ t. cond t (container_step (contained_in bytes)) (matrix_step slot (matrix_in bytes))) f ∙ ap container_step t.1
-    ∙ ap (λ c. Ok (OfContainer c)) (same_contained h t.0 t.2)
+pub container_read : (h : Held) (read : Result Contained ContainerFault) → TellsContained read (Ok h) → container_step read ≡ Ok (OfContainer (contained_of h))
+container_read h read t = ap container_step t.1 ∙ ap (λ c. Ok (OfContainer c)) (same_contained h t.0 t.2)
 
 refused_container : (fault : ContainerFault) (read : Result Contained ContainerFault) → TellsContained read (Err fault) → IsStep {A = Input} (container_step read) (Err (container_refusal_of fault))
 refused_container container.Memory read h = tt
 refused_container fault read h = ap container_step h
 
-pub container_refused : (slot : Slot) (bytes : List ℕ) (b : Bool) (fault : ContainerFault) (status : Status) → b ≡ bytes_eq magic (take 7 bytes) → b ≡ true → status ≡ container_refusal_of fault
-    → TellsContained (contained_in bytes) (Err fault) → IsStep {A = Input} (read_input slot bytes) (Err status)
-container_refused slot bytes b fault status e f s h =
-    let At : Result Input Status → Status → Type 0 = λ r t. IsStep {A = Input} r (Err t) in
-    let read = by_magic slot bytes b e ∙ ap (λ t. cond t (container_step (contained_in bytes)) (matrix_step slot (matrix_in bytes))) f in
-    subst (λ r. At r status) (sym read) (subst (At (container_step (contained_in bytes))) (sym s) (refused_container fault (contained_in bytes) h))
+pub container_refused : (fault : ContainerFault) (read : Result Contained ContainerFault) (status : Status) → status ≡ container_refusal_of fault → TellsContained read (Err fault)
+    → IsStep {A = Input} (container_step read) (Err status)
+container_refused fault read status s h = subst (λ t. IsStep {A = Input} (container_step read) (Err t)) (sym s) (refused_container fault read h)
 
 pub inner_matrix : (slot : Slot) (fault : MmFault) (status : Status) → status ≡ refusal_of slot fault → IsInnerRefusal status
 inner_matrix slot mm.Memory status e = subst IsInnerRefusal (sym e) tt

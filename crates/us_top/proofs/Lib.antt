@@ -4,6 +4,10 @@ pub mod CommandLemmas
 pub mod ConversionLemmas
 pub mod ConvertLemmas
 pub mod FindingLemmas
+pub mod EndingLemmas
 pub mod InfoLemmas
 pub mod InputLemmas
+pub mod PiecesLemmas
+pub mod ReadBackLemmas
 pub mod ReportLemmas
+pub mod RunLemmas

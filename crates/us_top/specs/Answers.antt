@@ -1,5 +1,5 @@
 -- Which answers a run may give, and why.
-use Rattle.std.specs.Prelude.{◌≡◌, ℕ, ◌⊎◌, List, [], ◌∷◌, Result, Ok, Err}
+use Rattle.std.specs.Prelude.{◌≡◌, ℕ, ◌⊎◌, List, [], ◌∷◌, ◌++◌, map, Option, Some, None, Result, Ok, Err}
 use Rattle.us_mm.specs.declared.fault.MmFault.{MmFault}
 use Rattle.us_mm.specs.declared.fault.MmFault.TheVariants as mm
 use Rattle.us_parse.specs.declared.parsed.DeclFault.{DeclFault}
@@ -11,14 +11,15 @@ use Rattle.us_outside.specs.declared.outside.Call.TheVariants.{Fetch}
 use Rattle.us_top.specs.declared.status.Slot.{Slot}
 use Rattle.us_top.specs.declared.status.Status.{Status}
 use Rattle.us_top.specs.declared.status.Status.TheVariants.{Done, Words, Matrix, ReadFault, WriteFault, Memory, Formats, Container}
-use Rattle.us_top.specs.Commands.{Use}
+use Rattle.us_top.specs.Commands.{Use, print_use, stores}
+use Rattle.us_top.specs.Stands.{Store, Outcome}
 
 abbrev pub IsOneOf : Slot → List Slot → Type 0
 IsOneOf slot [] = ⊥
 IsOneOf slot (s ∷ more) = (s ≡ slot) ⊎ IsOneOf slot more
 
--- An answer is the plain one, or want of memory, or a fault of the outside. Of these, a failed read comes only of a file that is reached, before which
--- all steps pass, and a failed write only where the plain answer is `Done`, since all stores come last.
+-- An answer is the plain one, or want of memory, or a fault of the outside. Of these, a failed read comes only of a file that is reached, before
+-- which all steps pass, and a failed write only where the plain answer is `Done`, since all stores come last.
 abbrev pub IsAnswer : List Slot → Status → Status → Type 0
 IsAnswer reached plain Memory = Unit {0}
 IsAnswer reached plain (ReadFault slot) = IsOneOf slot reached
@@ -52,6 +53,17 @@ IsCaused uses before now answer = Unit {0}
 abbrev pub NoneRose : List Use → Faults → Faults → Type 0
 NoneRose uses before now = EachUse (λ u. RoseAt before now u → ⊥) uses
 
+-- the calls that make an outcome
+abbrev pub store_use : Store → Use
+store_use s = stores s.slot s.name
+
+abbrev pub print_uses : Option (List ℕ) → List Use
+print_uses None = []
+print_uses (Some bytes) = print_use ∷ []
+
+abbrev pub writes : Outcome → List Use
+writes o = map store_use o.stores ++ print_uses o.prints
+
 -- ---- a step of a command
 
 -- a step gives what the plain step gives, or memory ran out, or a fetch failed
@@ -60,11 +72,6 @@ IsStep plain (Ok x) = plain ≡ Ok x
 IsStep plain (Err Memory) = Unit {0}
 IsStep plain (Err (ReadFault slot)) = Unit {0}
 IsStep plain (Err status) = plain ≡ Err status
-
--- the answer that steps come to
-abbrev pub status_of : {A : Type 0} → Result A Status → Status
-status_of (Ok x) = Done
-status_of (Err status) = status
 
 -- the answer to a fault of the reader of matrix files
 abbrev pub refusal_of : Slot → MmFault → Status

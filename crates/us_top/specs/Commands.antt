@@ -27,11 +27,6 @@ texts words = map (λ w. string_bytes w) words
 unfoldable pub side_of : List ℕ → Option ℕ
 side_of w = if is_numeral w && (nat_le (length w) 20 && is_side (digits_value 10 w)) then Some (digits_value 10 w) else None
 
-abbrev pub check_of : List ℕ → Option ℕ → Option ℕ → Option Command
-check_of formats None cols = None
-check_of formats (Some rows) None = None
-check_of formats (Some rows) (Some cols) = Some (Check formats (record { rows = rows; cols = cols }))
-
 -- ---- chains of formats
 
 -- the names between the commas
@@ -50,7 +45,9 @@ front (x ∷ y ∷ xs) = x ∷ front (y ∷ xs)
 
 -- 1 to 64 names, none empty, and `mtx` only as the last
 unfoldable pub is_chain : List ℕ → Bool
-is_chain chain = nat_le (length (names_of chain)) 64 && (list_all (λ w. not (length w == 0)) (names_of chain) && not (list_any is_text (front (names_of chain))))
+is_chain chain =
+    nat_le (length (names_of chain)) 64
+    && (list_all (λ w. not (length w == 0)) (names_of chain) && not (list_any is_text (front (names_of chain))))
 
 -- the formats of a chain: its names but for `mtx`
 abbrev pub hops_of : List ℕ → List (List ℕ)
@@ -60,19 +57,45 @@ hops_of chain = filter (λ w. not (is_text w)) (names_of chain)
 abbrev pub ends_in_text : List ℕ → Bool
 ends_in_text chain = list_any is_text (names_of chain)
 
--- a listing is not written yet: its word is `-`
-abbrev pub convert_of : List ℕ → List ℕ → List ℕ → List ℕ → List ℕ → Option Command
-convert_of formats input chain output listing = if is_chain chain && bytes_eq listing (codes "-") then Some (Convert formats input chain output) else None
+-- ---- words behind the name of a command
 
--- ----
+abbrev pub canon_of : List (List ℕ) → Option Command
+canon_of (input ∷ output ∷ []) = Some (Canon input output)
+canon_of _ = None
+
+abbrev pub check_on : List ℕ → Option ℕ → Option ℕ → Option Command
+check_on formats (Some rows) (Some cols) = Some (Check formats (record { rows = rows; cols = cols }))
+check_on formats _ _ = None
+
+abbrev pub check_of : List (List ℕ) → Option Command
+check_of (formats ∷ rows ∷ cols ∷ []) = check_on formats (side_of rows) (side_of cols)
+check_of _ = None
+
+-- a listing is not written yet: its word is `-`
+abbrev pub convert_of : List (List ℕ) → Option Command
+convert_of (formats ∷ input ∷ chain ∷ output ∷ listing ∷ []) =
+    if is_chain chain && bytes_eq listing (codes "-") then Some (Convert formats input chain output) else None
+convert_of _ = None
+
+abbrev pub info_of : List (List ℕ) → Option Command
+info_of (input ∷ []) = Some (Info input)
+info_of _ = None
+
+-- the words behind a name, by the name
+abbrev pub named : List ℕ → List (List ℕ) → Option Command
+named name words =
+    if bytes_eq name (codes "canon") then canon_of words
+    else if bytes_eq name (codes "check") then check_of words
+    else if bytes_eq name (codes "convert") then convert_of words
+    else if bytes_eq name (codes "info") then info_of words
+    else None
 
 -- the command that the words say, none where they say none
-unfoldable pub command_of : List (List ℕ) → Option Command
-command_of (command ∷ input ∷ []) = if bytes_eq command (codes "info") then Some (Info input) else None
-command_of (command ∷ input ∷ output ∷ []) = if bytes_eq command (codes "canon") then Some (Canon input output) else None
-command_of (command ∷ formats ∷ rows ∷ cols ∷ []) = if bytes_eq command (codes "check") then check_of formats (side_of rows) (side_of cols) else None
-command_of (command ∷ formats ∷ input ∷ chain ∷ output ∷ listing ∷ []) = if bytes_eq command (codes "convert") then convert_of formats input chain output listing else None
-command_of _ = None
+abbrev pub command_of : List (List ℕ) → Option Command
+command_of [] = None
+command_of (name ∷ words) = named name words
+
+-- ---- calls of the outside
 
 -- a kind of call, with the file that it is made on and that file's place in the command
 pub record Use : Type 0 where
@@ -96,12 +119,7 @@ uses (Canon input output) = reads Input input ∷ stores Output output ∷ []
 uses (Convert formats input chain output) = reads Formats formats ∷ reads Input input ∷ stores Output output ∷ print_use ∷ []
 uses (Info input) = reads Input input ∷ print_use ∷ []
 
-abbrev pub uses_of : Option Command → List Use
-uses_of None = []
-uses_of (Some command) = uses command
-
 -- whether a command prints
-abbrev pub prints : Option Command → Bool
-prints None = false
-prints (Some (Canon input output)) = false
-prints (Some _) = true
+abbrev pub prints : Command → Bool
+prints (Canon input output) = false
+prints _ = true

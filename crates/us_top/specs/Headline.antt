@@ -1,36 +1,64 @@
 -- What `convert` writes means the input.
-use Rattle.std.specs.Prelude.{◌≡◌, ℕ, List, [], ◌∷◌, Bool, true, false, Some, Ok, Result}
+use Rattle.std.specs.Prelude.{◌≡◌, ℕ, List, [], ◌∷◌, Bool, true, false, Option, Some, IfSome, Ok}
+use Rattle.us_tokens.specs.Reading.{Means}
 use Rattle.us_matrix.specs.Map.{Map}
 use Rattle.us_format.specs.Program.{shape_in, entries_in}
 use Rattle.us_format.specs.Meaning.{meaning}
 use Rattle.us_decl.specs.Declares.{Declared}
+use Rattle.us_parse.specs.Machine.{library_reader}
+use Rattle.us_parse.specs.Parses.{tokens_of}
 use Rattle.us_judge.specs.Views.{declaration_of}
+use Rattle.us_container.specs.Contained.{Contained, contained_in}
 use Rattle.us_outside.specs.Files.{Files, content_of}
 use Rattle.us_top.specs.declared.status.Slot.TheVariants as slots
 use Rattle.us_top.specs.declared.status.Status.{Status}
 use Rattle.us_top.specs.declared.status.Status.TheVariants.{Done}
-use Rattle.us_top.specs.Commands.{Command, Convert, ends_in_text}
+use Rattle.us_top.specs.Commands.{Command, Check, Convert, ends_in_text}
+use Rattle.us_top.specs.Library.{reading_of}
 use Rattle.us_top.specs.Steps.{Input, map_of, chain_in, input_at}
 use Rattle.us_top.specs.Converting.{buffers_on}
 
--- the meaning of the format's buffers of the matrix, by the format's own definition, is the matrix
-abbrev pub IsMeant : Map → Declared → Type 0
-IsMeant m d = meaning (shape_in m) (declaration_of d) (buffers_on m d) ≡ Some (entries_in m)
+-- what the container of a matrix in a format holds: the format, the matrix, and exactly the format's buffers of it
+abbrev pub kept_in : Map → Declared → Contained
+kept_in m d = record { declared = d; shape = shape_in m; buffers = buffers_on m d; entries = entries_in m }
 
--- so of the last format, where no canonical text is written
-abbrev pub LastIsMeant : Bool → Map → List Declared → Type 0
-LastIsMeant true m ds = Unit {0}
-LastIsMeant false m [] = Unit {0}
-LastIsMeant false m (d ∷ []) = IsMeant m d
-LastIsMeant false m (d ∷ e ∷ ds) = LastIsMeant false m (e ∷ ds)
+-- the bytes hold that, by the definition of containers; and the meaning of the buffers, by the format's own definition, is the matrix
+pub record IsMeant (m : Map) (d : Declared) (bytes : List ℕ) : Type 0 where
+  pub reads_back : contained_in bytes ≡ Ok (kept_in m d)
+  pub means : meaning (shape_in m) (declaration_of d) (buffers_on m d) ≡ Some (entries_in m)
 
--- a conversion of these files: the buffers in the container that it writes mean the input's matrix
-abbrev pub MeansInput : Command → Files → Type 0
-MeansInput (Convert formats input chain output) fs =
-    (ds : List Declared) (i : Input) → chain_in (content_of fs formats) chain ≡ Ok ds → input_at slots.Input (content_of fs input) ≡ Ok i → LastIsMeant (ends_in_text chain) (map_of i) ds
-MeansInput _ fs = Unit {0}
+-- so in the last format, where no canonical text is written
+abbrev pub LastIsMeant : Bool → Map → List Declared → List ℕ → Type 0
+LastIsMeant true m ds bytes = Unit {0}
+LastIsMeant false m [] bytes = Unit {0}
+LastIsMeant false m (d ∷ []) bytes = IsMeant m d bytes
+LastIsMeant false m (d ∷ e ∷ ds) bytes = LastIsMeant false m (e ∷ ds) bytes
+
+-- the bytes that a conversion of these files writes: a container of the input's matrix reads back and means it
+abbrev pub MeansInput : Command → Files → List ℕ → Type 0
+MeansInput (Convert formats input chain output) fs bytes =
+    (ds : List Declared) (i : Input) → chain_in (content_of fs formats) chain ≡ Ok ds → input_at slots.Input (content_of fs input) ≡ Ok i
+    → LastIsMeant (ends_in_text chain) (map_of i) ds bytes
+MeansInput _ fs bytes = Unit {0}
+
+-- so of the output, in the files that there are afterwards
+abbrev pub OutputMeans : Command → Files → Files → Type 0
+OutputMeans (Convert formats input chain output) fs after = MeansInput (Convert formats input chain output) fs (content_of after output)
+OutputMeans _ fs after = Unit {0}
 
 -- where the command was done
-abbrev pub DoneMeans : Status → Command → Files → Type 0
-DoneMeans Done command fs = MeansInput command fs
-DoneMeans _ command fs = Unit {0}
+abbrev pub DoneMeans : Status → Command → Files → Option Files → Type 0
+DoneMeans Done command fs after = IfSome after (OutputMeans command fs)
+DoneMeans _ command fs after = Unit {0}
+
+-- ---- the library
+
+-- what the bytes of a library are read as is spelled so in the grammar and keeps the limits, and a fault is the first
+abbrev pub ReadsByGrammar : List ℕ → Type 0
+ReadsByGrammar bytes = Means library_reader (tokens_of bytes) (reading_of bytes)
+
+-- so of the library that a command reads
+abbrev pub LibraryReads : Command → Files → Type 0
+LibraryReads (Check formats shape) fs = ReadsByGrammar (content_of fs formats)
+LibraryReads (Convert formats input chain output) fs = ReadsByGrammar (content_of fs formats)
+LibraryReads _ fs = Unit {0}

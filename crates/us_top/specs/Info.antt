@@ -2,7 +2,6 @@
 use Rattle.std.specs.Prelude.{ℕ, suc, ℤ, List, [], ◌∷◌, ◌++◌, length, codes}
 use Rattle.std.specs.Fmt.{decimal}
 use Rattle.us_matrix.specs.Map.{Map}
-use Rattle.us_container.specs.Contained.{Contained}
 use Rattle.us_top.specs.Steps.{Input, OfFile, OfContainer, map_of, size_on}
 
 -- a blank and a number
@@ -22,4 +21,6 @@ sides_text m = spaced m.rows ++ (spaced m.cols ++ spaced (length m.entries))
 abbrev pub info_text : Input → List ℕ
 info_text (OfFile m) = codes "matrix" ++ (sides_text m ++ (10 ∷ []))
 info_text (OfContainer c) =
-    codes "container 1 " ++ (c.declared.name ++ (sides_text (map_of (OfContainer c)) ++ (spaced (size_on (map_of (OfContainer c)) c.declared) ++ (10 ∷ buffer_lines 0 c.buffers))))
+    codes "container 1 "
+    ++ (c.declared.name
+    ++ (sides_text (map_of (OfContainer c)) ++ (spaced (size_on (map_of (OfContainer c)) c.declared) ++ (10 ∷ buffer_lines 0 c.buffers))))

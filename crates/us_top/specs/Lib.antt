@@ -10,3 +10,4 @@ pub mod Stands
 pub mod Lines
 pub mod Views
 pub mod Headline
+pub mod Runs

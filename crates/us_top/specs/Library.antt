@@ -23,6 +23,10 @@ told len (NoToken left) = Err (fault.Token (len - left))
 told len (Form left) = Err (fault.Form (len - left))
 told len (Broken limit left) = Err (broken limit (len - left))
 
+-- the reading of the bytes of a library
+abbrev pub reading_of : List ℕ → Answer Lexeme (Run Decl) Break
+reading_of bytes = scan library_reader (tokens_of bytes) (Closed Empty)
+
 -- the declarations that the bytes of a library hold, in order, or the first fault of its text
 abbrev pub library_in : List ℕ → Result (List Declared) DeclFault
-library_in bytes = told (length bytes) (scan library_reader (tokens_of bytes) (Closed Empty))
+library_in bytes = told (length bytes) (reading_of bytes)

@@ -63,7 +63,8 @@ container_text (container.Lengths b) = codes "lengths " ++ decimal b
 container_text (container.Trailing at) = codes "trailing " ++ decimal at
 container_text container.TooLarge = codes "too large"
 container_text (container.Climb p x) = codes "climb " ++ decimal p ++ codes " " ++ decimal x
-container_text (container.Cell b x have want) = codes "cell " ++ decimal b ++ codes " " ++ decimal x ++ codes " " ++ signed_decimal have ++ codes " " ++ signed_decimal want
+container_text (container.Cell b x have want) =
+    codes "cell " ++ decimal b ++ codes " " ++ decimal x ++ codes " " ++ signed_decimal have ++ codes " " ++ signed_decimal want
 container_text (container.Long b have want) = codes "long " ++ decimal b ++ codes " " ++ decimal have ++ codes " " ++ decimal want
 container_text container.Memory = codes "memory"
 

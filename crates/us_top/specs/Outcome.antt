@@ -1,80 +1,38 @@
--- What a command comes to where no call of the outside fails and there is memory enough: its answer, the files that it
--- stores, and what it prints. The steps go in order, and the first that fails decides.
-use Rattle.std.specs.Prelude.{ℕ, List, [], ◌∷◌, Option, Some, None, Result, Ok, Err}
+-- What a command comes to where no call of the outside fails and there is memory enough. Its steps go in order, and the first that fails is the
+-- answer; the others settle which files it may store and what it may print.
+use Rattle.std.specs.Prelude.{◌≡◌, ℕ, List, [], ◌∷◌, Some, None, Result, Ok, Err}
 use Rattle.us_mm.specs.Text.{text}
+use Rattle.us_decl.specs.Declares.{Declared}
 use Rattle.us_outside.specs.Files.{Files, content_of}
 use Rattle.us_top.specs.declared.status.Slot.{Slot}
-use Rattle.us_top.specs.declared.status.Slot.TheVariants.{Formats, Input, Output}
+use Rattle.us_top.specs.declared.status.Slot.TheVariants as slots
 use Rattle.us_top.specs.declared.status.Status.{Status}
-use Rattle.us_top.specs.declared.status.Status.TheVariants.{Done, Words}
-use Rattle.us_format.specs.Matrix.{Shape}
 use Rattle.us_top.specs.Commands.{Command, Canon, Check, Convert, Info}
-use Rattle.us_top.specs.Steps.{library_at, input_at, map_of, chain_in, within_limit}
-use Rattle.us_top.specs.Converting.{written, hop_lines}
+use Rattle.us_top.specs.Steps.{Input, library_at, input_at, map_of, chain_in, status_of}
+use Rattle.us_top.specs.Converting.{Made, made_in}
 use Rattle.us_top.specs.Report.{report}
 use Rattle.us_top.specs.Info.{info_text}
+use Rattle.us_top.specs.Stands.{Store, Outcome, nothing}
 
--- a file that is to be stored
-pub record Store : Type 0 where
-  pub slot : Slot
-  pub name : List ℕ
-  pub bytes : List ℕ
+-- ---- steps
 
--- the answer, the stores in order, and the bytes that are printed behind them, where the command prints
-pub record Outcome : Type 0 where
-  pub status : Status
-  pub stores : List Store
-  pub prints : Option (List ℕ)
+-- what the steps of a command give
+abbrev pub Given : Command → Type 0
+Given (Canon input output) = Input
+Given (Check formats shape) = List Declared
+Given (Convert formats input chain output) = Made
+Given (Info input) = Input
 
--- a refusal stores and prints nothing
-abbrev pub refused : Status → Outcome
-refused status = record { status = status; stores = []; prints = None }
+-- the steps of a command, with these files
+abbrev pub steps : (command : Command) → Files → Result (Given command) Status
+steps (Canon input output) fs = input_at slots.Input (content_of fs input)
+steps (Check formats shape) fs = library_at slots.Formats (content_of fs formats)
+steps (Convert formats input chain output) fs = made_in formats input chain fs
+steps (Info input) fs = input_at slots.Input (content_of fs input)
 
--- all was done
-abbrev pub done : List Store → Option (List ℕ) → Outcome
-done stores prints = record { status = Done; stores = stores; prints = prints }
-
--- the output
-abbrev pub output_of : List ℕ → List ℕ → Store
-output_of name bytes = record { slot = Output; name = name; bytes = bytes }
-
--- a step that gives a value or ends the command, and what comes behind it
-abbrev pub and_then : {A : Type 0} → Result A Status → (A → Outcome) → Outcome
-and_then (Ok x) next = next x
-and_then (Err status) next = refused status
-
--- `canon`: the canonical text of the input's matrix is stored
-abbrev pub canon : List ℕ → List ℕ → Files → Outcome
-canon input output fs = and_then (input_at Input (content_of fs input)) (λ i. done (output_of output (text (map_of i)) ∷ []) None)
-
--- `check`: a line for each declaration of the library is printed
-abbrev pub check : List ℕ → Shape → Files → Outcome
-check formats shape fs = and_then (library_at Formats (content_of fs formats)) (λ ds. done [] (Some (report shape ds)))
-
--- `convert`: the formats of the chain are found and judged, the input is read, each hop has to be within the limit; then the container in the last format
--- is stored, or the canonical text, and a line for each hop is printed
-abbrev pub convert : List ℕ → List ℕ → List ℕ → List ℕ → Files → Outcome
-convert formats input chain output fs =
-    and_then (chain_in (content_of fs formats) chain) (λ ds.
-    and_then (input_at Input (content_of fs input)) (λ i.
-    and_then (within_limit (map_of i) 1 ds) (λ _. done (output_of output (written chain ds (map_of i)) ∷ []) (Some (hop_lines (map_of i) ds)))))
-
--- `info`: what the input is, is printed
-abbrev pub info : List ℕ → Files → Outcome
-info input fs = and_then (input_at Input (content_of fs input)) (λ i. done [] (Some (info_text i)))
-
-abbrev pub outcome : Command → Files → Outcome
-outcome (Check formats shape) fs = check formats shape fs
-outcome (Canon input output) fs = canon input output fs
-outcome (Convert formats input chain output) fs = convert formats input chain output fs
-outcome (Info input) fs = info input fs
-
--- what any words come to
-abbrev pub plain : Option Command → Files → Outcome
-plain None fs = refused Words
-plain (Some command) fs = outcome command fs
-
--- ---- what is read
+-- the answer of a command
+abbrev pub plain_status : Command → Files → Status
+plain_status command fs = status_of (steps command fs)
 
 -- the slot, if the step before passes
 abbrev pub behind : {A : Type 0} → Result A Status → Slot → List Slot
@@ -83,11 +41,31 @@ behind (Err status) slot = []
 
 -- the files that a command comes to read, with these files: those before which all steps pass
 abbrev pub reached : Command → Files → List Slot
-reached (Check formats shape) fs = Formats ∷ []
-reached (Canon input output) fs = Input ∷ []
-reached (Convert formats input chain output) fs = Formats ∷ behind (chain_in (content_of fs formats) chain) Input
-reached (Info input) fs = Input ∷ []
+reached (Canon input output) fs = slots.Input ∷ []
+reached (Check formats shape) fs = slots.Formats ∷ []
+reached (Convert formats input chain output) fs = slots.Formats ∷ behind (chain_in (content_of fs formats) chain) slots.Input
+reached (Info input) fs = slots.Input ∷ []
 
-abbrev pub reached_by : Option Command → Files → List Slot
-reached_by None fs = []
-reached_by (Some command) fs = reached command fs
+-- ---- outcomes
+
+-- the output
+abbrev pub output_of : List ℕ → List ℕ → Store
+output_of name bytes = record { slot = slots.Output; name = name; bytes = bytes }
+
+-- what a command may store and print, by what its steps have given:
+-- the canonical text of the input's matrix; a line for each declaration; the container in the last format, or the canonical text, and a line for each
+-- format; what the input is
+abbrev pub Makes : (command : Command) → Given command → Outcome → Type 0
+Makes (Canon input output) i o = o ≡ record { stores = output_of output (text (map_of i)) ∷ []; prints = None }
+Makes (Check formats shape) ds o = o ≡ record { stores = []; prints = Some (report shape ds) }
+Makes (Convert formats input chain output) made o = o ≡ record { stores = output_of output made.bytes ∷ []; prints = Some made.lines }
+Makes (Info input) i o = o ≡ record { stores = []; prints = Some (info_text i) }
+
+-- where a step fails, nothing is stored and printed
+abbrev pub MayMake : (command : Command) → Result (Given command) Status → Outcome → Type 0
+MayMake command (Ok given) o = Makes command given o
+MayMake command (Err status) o = o ≡ nothing
+
+-- the outcomes that a command allows, with these files
+abbrev pub Allows : Command → Files → Outcome → Type 0
+Allows command fs o = MayMake command (steps command fs) o

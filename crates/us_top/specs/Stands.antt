@@ -1,11 +1,25 @@
--- What stands after each answer, of an outside that tells its files.
+-- What is stored and printed, and what stands of it after each answer, of an outside that tells its files.
 use Rattle.std.specs.Prelude.{◌≡◌, ℕ, ◌⊎◌, List, [], ◌∷◌, ◌++◌, Option, Some, None}
 use Rattle.std.specs.Option.{option_map}
 use Rattle.us_outside.specs.Files.{Files, stored, StoresPart, PrintsPart}
+use Rattle.us_top.specs.declared.status.Slot.{Slot}
 use Rattle.us_top.specs.declared.status.Slot.TheVariants.{Print}
 use Rattle.us_top.specs.declared.status.Status.{Status}
 use Rattle.us_top.specs.declared.status.Status.TheVariants.{Done, WriteFault, Memory}
-use Rattle.us_top.specs.Outcome.{Store, Outcome}
+
+-- a file that is to be stored
+pub record Store : Type 0 where
+  pub slot : Slot
+  pub name : List ℕ
+  pub bytes : List ℕ
+
+-- the stores in order, and the bytes that are printed behind them, where anything is printed
+pub record Outcome : Type 0 where
+  pub stores : List Store
+  pub prints : Option (List ℕ)
+
+abbrev pub nothing : Outcome
+nothing = record { stores = []; prints = None }
 
 abbrev pub after_stores : List Store → Files → Files
 after_stores [] fs = fs
@@ -25,21 +39,26 @@ StopsInStore (WriteFault slot) s fs fs' = (slot ≡ s.slot) × StoresPart s.name
 StopsInStore Memory s fs fs' = fs' ≡ Some fs
 StopsInStore _ s fs fs' = ⊥
 
--- a failed print has printed the first bytes of what it was to print
-abbrev pub StopsInPrint : Status → List ℕ → Option (List ℕ) → Option (List ℕ) → Type 0
-StopsInPrint (WriteFault slot) bytes printed printed' = (slot ≡ Print) × PrintsPart bytes printed printed'
-StopsInPrint Memory bytes printed printed' = printed' ≡ printed
-StopsInPrint _ bytes printed printed' = ⊥
+-- the run stopped at one of the stores; those before it are done
+abbrev pub StopsInStores : Status → List Store → Files → Option Files → Type 0
+StopsInStores answer [] fs fs' = ⊥
+StopsInStores answer (s ∷ more) fs fs' = StopsInStore answer s fs fs' ⊎ StopsInStores answer more (stored s.name s.bytes fs) fs'
 
--- the run stopped at one of the stores, or at the print behind them; the stores before that place are done
-abbrev pub StopsAt : Status → List Store → Option (List ℕ) → Files → Option (List ℕ) → Option Files → Option (List ℕ) → Type 0
-StopsAt answer [] None fs printed fs' printed' = ⊥
-StopsAt answer [] (Some bytes) fs printed fs' printed' = (fs' ≡ Some fs) × StopsInPrint answer bytes printed printed'
-StopsAt answer (s ∷ more) prints fs printed fs' printed' =
-    (StopsInStore answer s fs fs' × (printed' ≡ printed)) ⊎ StopsAt answer more prints (stored s.name s.bytes fs) printed fs' printed'
+-- a failed print has printed the first bytes of what it was to print; want of memory prints nothing
+abbrev pub StopsInPrint : Status → Option (List ℕ) → Option (List ℕ) → Option (List ℕ) → Type 0
+StopsInPrint answer None printed printed' = ⊥
+StopsInPrint (WriteFault slot) (Some bytes) printed printed' = (slot ≡ Print) × PrintsPart bytes printed printed'
+StopsInPrint Memory (Some bytes) printed printed' = printed' ≡ printed
+StopsInPrint _ (Some bytes) printed printed' = ⊥
 
+-- the run stopped at one of the stores, and nothing is printed, or at the print behind them, and they are done
+abbrev pub StopsAt : Status → Outcome → Files → Option (List ℕ) → Option Files → Option (List ℕ) → Type 0
+StopsAt answer o fs printed fs' printed' =
+    (StopsInStores answer o.stores fs fs' × (printed' ≡ printed)) ⊎ ((fs' ≡ Some (after_stores o.stores fs)) × StopsInPrint answer o.prints printed printed')
+
+-- what stands of an outcome after an answer: all of it, or all up to the place at which the run stopped, or nothing
 abbrev pub Stands : Outcome → Status → Files → Option (List ℕ) → Option Files → Option (List ℕ) → Type 0
 Stands o Done fs printed fs' printed' = (fs' ≡ Some (after_stores o.stores fs)) × (printed' ≡ after_print o.prints printed)
-Stands o (WriteFault slot) fs printed fs' printed' = StopsAt (WriteFault slot) o.stores o.prints fs printed fs' printed'
-Stands o Memory fs printed fs' printed' = Keeps fs printed fs' printed' ⊎ StopsAt Memory o.stores o.prints fs printed fs' printed'
+Stands o (WriteFault slot) fs printed fs' printed' = StopsAt (WriteFault slot) o fs printed fs' printed'
+Stands o Memory fs printed fs' printed' = Keeps fs printed fs' printed' ⊎ StopsAt Memory o fs printed fs' printed'
 Stands o answer fs printed fs' printed' = Keeps fs printed fs' printed'

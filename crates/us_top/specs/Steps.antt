@@ -1,11 +1,11 @@
 -- The steps of commands: each gives a value, or ends the command with an answer.
-use Rattle.std.specs.Prelude.{ℕ, suc, List, [], ◌∷◌, map, length, take, nat_lt, nat_le, Option, Some, None, Result, Ok, Err, if◌then◌else◌}
+use Rattle.std.specs.Prelude.{ℕ, suc, Bool, List, [], ◌∷◌, map, length, take, nat_lt, nat_le, Option, Some, None, Result, Ok, Err, if◌then◌else◌}
 use Rattle.std.specs.Str.{bytes_eq}
 use Rattle.us_matrix.specs.Map.{Map}
 use Rattle.us_matrix.specs.declared.matrix.Triple.{Triple}
 use Rattle.us_mm.specs.declared.fault.MmFault.{MmFault}
 use Rattle.us_mm.specs.Reads.{matrix_in}
-use Rattle.us_format.specs.Matrix.{Shape, Entry}
+use Rattle.us_format.specs.Matrix.{Entry}
 use Rattle.us_format.specs.Program.{shape_in, entries_in}
 use Rattle.us_format.specs.Buffers.{size}
 use Rattle.us_format.specs.Reading.{limit}
@@ -14,6 +14,7 @@ use Rattle.us_decl.specs.Names.{same_name}
 use Rattle.us_parse.specs.declared.parsed.DeclFault.{DeclFault}
 use Rattle.us_judge.specs.declared.refusal.Refusal.{Refusal}
 use Rattle.us_judge.specs.Acceptance.{first_refusal}
+use Rattle.us_judge.specs.Entry.{entry_format}
 use Rattle.us_judge.specs.Views.{declaration_of}
 use Rattle.us_container.specs.declared.fault.ContainerFault.{ContainerFault}
 use Rattle.us_container.specs.Bytes.{magic}
@@ -30,6 +31,11 @@ use Rattle.us_top.specs.Library.{library_in}
 abbrev pub then_step : {A B : Type 0} → Result A Status → (A → Result B Status) → Result B Status
 then_step (Ok x) next = next x
 then_step (Err status) next = Err status
+
+-- the answer that steps come to
+abbrev pub status_of : {A : Type 0} → Result A Status → Status
+status_of (Ok x) = status.Done
+status_of (Err status) = status
 
 -- what reading a file gives, unless it is too long
 unfoldable pub of_file : {A : Type 0} → Slot → List ℕ → Result A Status → Result A Status
@@ -54,8 +60,16 @@ abbrev pub map_of : Input → Map
 map_of (OfFile m) = m
 map_of (OfContainer c) = record { rows = c.shape.rows; cols = c.shape.cols; entries = map triple_of c.entries }
 
+-- the size of a format on a matrix
+abbrev pub size_on : Map → Declared → ℕ
+size_on m d = size (shape_in m) (declaration_of d) (entries_in m)
+
+-- the matrix of a file is held in the built-in format, whose size on it has to be within the limit
+unfoldable pub held_in_entry : Map → Result Input Status
+held_in_entry m = if nat_le (size_on m entry_format) limit then Ok (OfFile m) else Err (TooLarge 0)
+
 abbrev pub matrix_step : Slot → Result Map MmFault → Result Input Status
-matrix_step slot (Ok m) = Ok (OfFile m)
+matrix_step slot (Ok m) = held_in_entry m
 matrix_step slot (Err fault) = Err (Matrix slot fault)
 
 abbrev pub container_step : Result Contained ContainerFault → Result Input Status
@@ -63,8 +77,11 @@ container_step (Ok c) = Ok (OfContainer c)
 container_step (Err fault) = Err (Container fault)
 
 -- a file that begins with the seven bytes of a container is one, any other is a matrix file
+abbrev pub is_container : List ℕ → Bool
+is_container bytes = bytes_eq (take 7 bytes) magic
+
 abbrev pub read_input : Slot → List ℕ → Result Input Status
-read_input slot bytes = if bytes_eq (take 7 bytes) magic then container_step (contained_in bytes) else matrix_step slot (matrix_in bytes)
+read_input slot bytes = if is_container bytes then container_step (contained_in bytes) else matrix_step slot (matrix_in bytes)
 
 -- reading the input in a file
 abbrev pub input_at : Slot → List ℕ → Result Input Status
@@ -117,10 +134,6 @@ abbrev pub chain_in : List ℕ → List ℕ → Result (List Declared) Status
 chain_in bytes chain = then_step (library_at Formats bytes) (λ ds. formats_in ds (hops_of chain))
 
 -- ---- sizes
-
--- the size of a format on a matrix
-abbrev pub size_on : Map → Declared → ℕ
-size_on m d = size (shape_in m) (declaration_of d) (entries_in m)
 
 -- each format is within the limit, the first of which is the k-th
 abbrev pub within_limit : Map → ℕ → List Declared → Result (Unit {0}) Status

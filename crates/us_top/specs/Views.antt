@@ -1,5 +1,6 @@
 -- Values of the program as what they stand for.
-use Rattle.std.specs.Prelude.{◌≡◌, true, ℕ, ◌<◌, ◌^◌, List, map, Result, Ok, Err}
+use Rattle.std.specs.Prelude.{◌≡◌, true, ℕ, ◌<◌, ◌≤◌, ◌^◌, ◌⊎◌, List, length, map, Option, Some, None, Result, Ok, Err}
+use Rattle.std.specs.Option.{option_map}
 use Rattle.std.specs.declared.alloc.Global.{Global}
 use Rattle.std.specs.declared.vec.Vec.{Vec}
 use denote.Ref.{Bor}
@@ -8,6 +9,8 @@ use Rattle.us_decl.specs.declared.library.Library.{Library}
 use Rattle.us_decl.specs.Declares.{Declared}
 use Rattle.us_decl.specs.Views.{decl_view}
 use Rattle.us_top.specs.declared.status.Status.{Status}
+use Rattle.us_mm.specs.declared.reader.CoordinateReader.{CoordinateReader}
+use Rattle.us_mm.specs.Readers.{Stands, IsOut}
 use Rattle.us_format.specs.Matrix.{Shape}
 use Rattle.us_matrix.specs.declared.shape.Shape as code
 use Rattle.us_format.specs.Program.{shape_in, entries_in}
@@ -17,6 +20,8 @@ use Rattle.us_top.specs.Commands as commands
 use Rattle.us_top.specs.Commands.{is_chain}
 use Rattle.us_top.specs.Steps.{Input, OfFile, OfContainer}
 use Rattle.us_top.specs.Converting.{Made}
+use Rattle.us_top.specs.Stands.{Store, Outcome}
+use Rattle.us_top.specs.declared.ending.Store as ending
 use Rattle.us_top.specs.declared.conversion.Made as conversion
 use Rattle.us_top.specs.declared.input.Input as inputs
 use Rattle.us_top.specs.declared.input.Input.TheVariants.{File, Container}
@@ -39,6 +44,11 @@ IsProper (Check formats shape) = (shape.rows < 2 ^ 31) × (shape.cols < 2 ^ 31)
 IsProper (Convert formats input chain output) = is_chain chain.now ≡ true
 IsProper (Info input) = Unit {0}
 
+-- words were read as the command that they say
+abbrev pub Says : Option Command → Option commands.Command → Type 0
+Says None plain = plain ≡ None
+Says (Some command) plain = (plain ≡ Some (command_view command)) × IsProper command
+
 -- the declarations of a library that was read
 abbrev pub declarations_of : Result Library Status → Result (List Declared) Status
 declarations_of (Ok library) = Ok (map decl_view library)
@@ -48,6 +58,10 @@ declarations_of (Err status) = Err status
 abbrev pub bytes_of : Result (Vec ℕ Global) Status → Result (List ℕ) Status
 bytes_of (Ok bytes) = Ok bytes.items
 bytes_of (Err status) = Err status
+
+-- a reader has read a file that isn't too long, to its end, unless memory ran out
+abbrev pub HasRead : List ℕ → CoordinateReader → Type 0
+HasRead bytes reader = (length bytes ≤ 1073741824) × (IsOut reader ⊎ Stands reader bytes)
 
 -- a held matrix as what its container holds
 abbrev pub contained_of : Held → Contained
@@ -79,3 +93,10 @@ made_view m = record { bytes = m.bytes.items; lines = m.lines.items }
 abbrev pub made_of : Result conversion.Made Status → Result Made Status
 made_of (Ok made) = Ok (made_view made)
 made_of (Err status) = Err status
+
+-- a file that is to be stored, and all that is stored and printed
+abbrev pub store_view : ending.Store → Store
+store_view s = record { slot = s.slot; name = s.name.now; bytes = s.bytes.now }
+
+abbrev pub outcome_view : List ending.Store → Option (Bor (List ℕ)) → Outcome
+outcome_view stores lines = record { stores = map store_view stores; prints = option_map (λ l. l.now) lines }

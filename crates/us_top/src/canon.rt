@@ -1,12 +1,8 @@
 //! The command that writes a matrix file anew.
-ghost use Rattle.std.specs.Prelude.{◌≡◌, ◌≢◌, IfSome};
-ghost use Rattle.us_top.specs.Commands.{uses};
-ghost use Rattle.us_top.specs.Commands as commands;
-ghost use Rattle.us_top.specs.Outcome as outcome;
-ghost use Rattle.us_top.specs.Answers.{IsAnswer, IsCaused};
-ghost use Rattle.us_top.specs.Stands.{Stands};
+ghost use Rattle.us_top.specs.Commands.{Canon};
+ghost use Rattle.us_top.specs.Runs.{IsRun, told};
 
-use crate::ending::store_output;
+use crate::ending::{Store, finish};
 use crate::input::read_input;
 use crate::{Slot, Status};
 use std::alloc::Global;
@@ -15,12 +11,9 @@ use us_outside::Outside;
 
 /// Stores the canonical text of the input's matrix as the output.
 pub fn canon<O: Outside>(alloc: Global, outside: &mut O, input: &str, output: &str) -> Status
-    ensures plain { IfSome (O.files outside.old) (λ fs. IsAnswer (outcome.reached (commands.Canon input.now output.now) fs) (outcome.canon input.now output.now fs).status result) }
-    ensures words { result ≢ Status.Words }
-    ensures cause { IsCaused (uses (commands.Canon input.now output.now)) (O.faults outside.old) (O.faults outside.new) result }
-    ensures stands { IfSome (O.files outside.old) (λ fs.
-        Stands (outcome.canon input.now output.now fs) result fs (O.printed outside.old) (O.files outside.new) (O.printed outside.new)) }
-    ensures printed { O.printed outside.new ≡ O.printed outside.old }
+    ensures { IsRun (Canon input.now output.now)
+        (told (O.files outside.old) (O.printed outside.old) (O.faults outside.old))
+        (told (O.files outside.new) (O.printed outside.new) (O.faults outside.new)) result }
 {
     let input = match read_input(alloc, outside, Slot::Input, input) {
         Ok(input) => input,
@@ -29,5 +22,5 @@ pub fn canon<O: Outside>(alloc: Global, outside: &mut O, input: &str, output: &s
     let Ok(text) = write_coordinate(alloc, input.matrix()) else {
         return Status::Memory;
     };
-    store_output(outside, output, &text)
+    finish(outside, &[Store::output(output, &text)], None)
 }

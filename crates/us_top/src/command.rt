@@ -1,7 +1,7 @@
 //! The words of the command line.
-ghost use Rattle.std.specs.Prelude.{◌≡◌, ◌<◌, ◌^◌, Some, None, length, IfSome, MatchOption};
-ghost use Rattle.us_top.specs.Commands.{texts, command_of, check_of, convert_of, side_of};
-ghost use Rattle.us_top.specs.Views.{command_view, IsProper};
+ghost use Rattle.std.specs.Prelude.{◌≡◌, ◌<◌, ◌^◌, Some, None, IfSome, MatchOption};
+ghost use Rattle.us_top.specs.Commands.{texts, command_of, canon_of, check_of, convert_of, info_of, side_of};
+ghost use Rattle.us_top.specs.Views.{Says};
 
 use crate::chain::is_chain;
 use us_matrix::Shape;
@@ -33,116 +33,73 @@ pub enum Command<'a> {
     },
 }
 
-/// The command that the words say, where they say one.
+/// The command that the words say, where they say one: its name, and its words behind it.
 pub fn command_of(words: &[String]) -> Option<Command<'_>>
-    ensures command { MatchOption result (command_of (texts words.now) ≡ None) (λ c. command_of (texts words.now) ≡ Some (command_view c)) }
-    ensures proper { IfSome result IsProper }
+    ensures { Says result (command_of (texts words.now)) }
 {
-    if words.len() == 2 {
-        return info_words(words);
+    let (name, words) = words.split_first()?;
+    match name.as_str() {
+        "canon" => canon_of(words),
+        "check" => check_of(words),
+        "convert" => convert_of(words),
+        "info" => info_of(words),
+        _ => None,
     }
-    if words.len() == 3 {
-        return canon_words(words);
-    }
-    if words.len() == 4 {
-        return check_words(words);
-    }
-    if words.len() == 6 {
-        return convert_words(words);
-    }
-    None
 }
 
-fn info_words(words: &[String]) -> Option<Command<'_>>
-    requires { length words.now ≡ 2 }
-    ensures command { MatchOption result (command_of (texts words.now) ≡ None) (λ c. command_of (texts words.now) ≡ Some (command_view c)) }
-    ensures proper { IfSome result IsProper }
+fn canon_of(words: &[String]) -> Option<Command<'_>>
+    ensures { Says result (canon_of (texts words.now)) }
 {
-    if words[0].as_str() == "info" {
-        return Some(Command::Info {
-            input: words[1].as_str(),
-        });
-    }
-    None
+    let [input, output] = words else {
+        return None;
+    };
+    Some(Command::Canon {
+        input: input.as_str(),
+        output: output.as_str(),
+    })
 }
 
-fn canon_words(words: &[String]) -> Option<Command<'_>>
-    requires { length words.now ≡ 3 }
-    ensures command { MatchOption result (command_of (texts words.now) ≡ None) (λ c. command_of (texts words.now) ≡ Some (command_view c)) }
-    ensures proper { IfSome result IsProper }
+fn check_of(words: &[String]) -> Option<Command<'_>>
+    ensures { Says result (check_of (texts words.now)) }
 {
-    if words[0].as_str() == "canon" {
-        return Some(Command::Canon {
-            input: words[1].as_str(),
-            output: words[2].as_str(),
-        });
-    }
-    None
-}
-
-fn check_words(words: &[String]) -> Option<Command<'_>>
-    requires { length words.now ≡ 4 }
-    ensures command { MatchOption result (command_of (texts words.now) ≡ None) (λ c. command_of (texts words.now) ≡ Some (command_view c)) }
-    ensures proper { IfSome result IsProper }
-{
-    if words[0].as_str() == "check" {
-        return check_of(words[1].as_str(), words[2].as_str(), words[3].as_str());
-    }
-    None
-}
-
-fn convert_words(words: &[String]) -> Option<Command<'_>>
-    requires { length words.now ≡ 6 }
-    ensures command { MatchOption result (command_of (texts words.now) ≡ None) (λ c. command_of (texts words.now) ≡ Some (command_view c)) }
-    ensures proper { IfSome result IsProper }
-{
-    if words[0].as_str() == "convert" {
-        return convert_of(
-            words[1].as_str(),
-            words[2].as_str(),
-            words[3].as_str(),
-            words[4].as_str(),
-            words[5].as_str(),
-        );
-    }
-    None
+    let [formats, rows, cols] = words else {
+        return None;
+    };
+    let rows = side(rows.as_str())?;
+    let cols = side(cols.as_str())?;
+    Some(Command::Check {
+        formats: formats.as_str(),
+        shape: Shape { rows, cols },
+    })
 }
 
 // A listing is not written yet: its word is `-`.
-fn convert_of<'a>(
-    formats: &'a str,
-    input: &'a str,
-    chain: &'a str,
-    output: &'a str,
-    listing: &str,
-) -> Option<Command<'a>>
-    ensures command { MatchOption result (convert_of formats.now input.now chain.now output.now listing.now ≡ None) (λ c. convert_of formats.now input.now chain.now output.now listing.now ≡ Some (command_view c)) }
-    ensures proper { IfSome result IsProper }
+fn convert_of(words: &[String]) -> Option<Command<'_>>
+    ensures { Says result (convert_of (texts words.now)) }
 {
-    if is_chain(chain) && listing == "-" {
-        Some(Command::Convert {
-            formats,
-            input,
-            chain,
-            output,
-        })
-    } else {
-        None
+    let [formats, input, chain, output, listing] = words else {
+        return None;
+    };
+    if !is_chain(chain.as_str()) || listing.as_str() != "-" {
+        return None;
     }
+    Some(Command::Convert {
+        formats: formats.as_str(),
+        input: input.as_str(),
+        chain: chain.as_str(),
+        output: output.as_str(),
+    })
 }
 
-fn check_of<'a>(formats: &'a str, rows: &str, cols: &str) -> Option<Command<'a>>
-    ensures command { MatchOption result (check_of formats.now (side_of rows.now) (side_of cols.now) ≡ None) (λ c. check_of formats.now (side_of rows.now) (side_of cols.now) ≡ Some (command_view c)) }
-    ensures proper { IfSome result IsProper }
+fn info_of(words: &[String]) -> Option<Command<'_>>
+    ensures { Says result (info_of (texts words.now)) }
 {
-    let Some(rows) = side(rows) else {
+    let [input] = words else {
         return None;
     };
-    let Some(cols) = side(cols) else {
-        return None;
-    };
-    let shape = Shape { rows, cols };
-    Some(Command::Check { formats, shape })
+    Some(Command::Info {
+        input: input.as_str(),
+    })
 }
 
 // Rows or columns: a number of at most 20 digits, from 1 to 2147483647.

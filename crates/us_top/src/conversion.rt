@@ -11,6 +11,7 @@ ghost use Rattle.us_top.specs.Views.{bytes_of, made_of};
 
 use crate::Status;
 use crate::chain::ends_in_text;
+use crate::read_back::reads_back;
 use itoa::Buffer;
 use std::alloc::{AllocError, Global};
 use us_check::Held;
@@ -41,7 +42,7 @@ pub fn make(
     requires { length formats.items ≤ 64 }
     ensures plain { IsStep (made_step chain.now formats.items matrix) (made_of result) }
     ensures refusal { IfErr result IsInnerRefusal }
-    ensures means { OnOk result (LastIsMeant (ends_in_text chain.now) matrix formats.items) }
+    ensures means { IfOk result (λ made. LastIsMeant (ends_in_text chain.now) matrix formats.items made.bytes.items) }
 {
     let lines = hop_lines(alloc, &formats, &matrix)?;
     let bytes = written(alloc, chain, formats, matrix)?;
@@ -87,7 +88,7 @@ fn written(
 ) -> Result<Vec<u8>, AllocError>
     requires { within_limit matrix 1 formats.items ≡ Ok tt }
     ensures bytes { IfOk result (λ v. v.items ≡ written chain.now formats.items matrix) }
-    ensures means { OnOk result (LastIsMeant (ends_in_text chain.now) matrix formats.items) }
+    ensures means { IfOk result (λ v. LastIsMeant (ends_in_text chain.now) matrix formats.items v.items) }
 {
     if ends_in_text(chain) {
         return write_coordinate(alloc, &matrix);
@@ -103,12 +104,13 @@ fn written(
 fn container(alloc: Global, format: Format, matrix: Matrix) -> Result<Vec<u8>, AllocError>
     requires { size_on matrix format ≤ limit }
     ensures bytes { IfOk result (λ v. v.items ≡ container_of matrix format) }
-    ensures means { OnOk result (IsMeant matrix format) }
+    ensures means { IfOk result (λ v. IsMeant matrix format v.items) }
 {
     let held = match Held::of(alloc, format, matrix) {
         Ok(held) => held,
         Err(BuildFault::TooLarge) => unreachable!(),
         Err(BuildFault::Memory) => return Err(AllocError),
     };
+    reads_back(&held);
     write_container(alloc, &held)
 }

@@ -1,18 +1,17 @@
 //! The command that converts a matrix through a chain of formats.
-ghost use Rattle.std.specs.Prelude.{◌≡◌, ◌≢◌, ◌∷◌, [], IfErr, IfOk, IfSome, true};
+ghost use Rattle.std.specs.Prelude.{◌≡◌, ◌∷◌, [], IfErr, IfOk, IfSome, true};
 ghost use Rattle.us_outside.specs.Causes.{NeverFell};
 ghost use Rattle.us_top.specs.declared.status.Slot.TheVariants.{Formats, Input};
-ghost use Rattle.us_top.specs.Commands.{is_chain, reads, uses};
-ghost use Rattle.us_top.specs.Commands as commands;
+ghost use Rattle.us_top.specs.Commands.{Convert, is_chain, reads};
 ghost use Rattle.us_top.specs.Converting.{made_in};
-ghost use Rattle.us_top.specs.Outcome as outcome;
-ghost use Rattle.us_top.specs.Answers.{IsAnswer, IsCaused, IsStep, IsRefusal, status_of};
-ghost use Rattle.us_top.specs.Headline.{DoneMeans, MeansInput};
-ghost use Rattle.us_top.specs.Stands.{Stands};
+ghost use Rattle.us_top.specs.Outcome.{plain_status, reached};
+ghost use Rattle.us_top.specs.Answers.{IsAnswer, IsStep, IsRefusal};
+ghost use Rattle.us_top.specs.Headline.{MeansInput};
+ghost use Rattle.us_top.specs.Runs.{IsRun, told};
 ghost use Rattle.us_top.specs.Views.{made_of};
 
 use crate::conversion::{Made, make};
-use crate::ending::store_and_print;
+use crate::ending::{Store, finish};
 use crate::finding::read_chain;
 use crate::input::read_input;
 use crate::{Slot, Status};
@@ -30,15 +29,16 @@ pub fn convert<O: Outside>(
     output: &str,
 ) -> Status
     requires { is_chain chain.now ≡ true }
-    ensures plain { IfSome (O.files outside.old) (λ fs. IsAnswer (outcome.reached (commands.Convert formats.now input.now chain.now output.now) fs) (outcome.convert formats.now input.now chain.now output.now fs).status result) }
-    ensures words { result ≢ Status.Words }
-    ensures cause { IsCaused (uses (commands.Convert formats.now input.now chain.now output.now)) (O.faults outside.old) (O.faults outside.new) result }
-    ensures stands { IfSome (O.files outside.old) (λ fs.
-        Stands (outcome.convert formats.now input.now chain.now output.now fs) result fs (O.printed outside.old) (O.files outside.new) (O.printed outside.new)) }
-    ensures means { IfSome (O.files outside.old) (λ fs. DoneMeans result (commands.Convert formats.now input.now chain.now output.now) fs) }
+    ensures { IsRun (Convert formats.now input.now chain.now output.now)
+        (told (O.files outside.old) (O.printed outside.old) (O.faults outside.old))
+        (told (O.files outside.new) (O.printed outside.new) (O.faults outside.new)) result }
 {
     match prepare(alloc, outside, formats, input, chain) {
-        Ok(made) => store_and_print(outside, output, &made.bytes, &made.lines),
+        Ok(made) => finish(
+            outside,
+            &[Store::output(output, &made.bytes)],
+            Some(&made.lines),
+        ),
         Err(status) => status,
     }
 }
@@ -53,9 +53,10 @@ fn prepare<O: Outside>(
 ) -> Result<Made, Status>
     requires { is_chain chain.now ≡ true }
     ensures plain { IfSome (O.files outside.old) (λ fs. IsStep (made_in formats.now input.now chain.now fs) (made_of result)) }
-    ensures answer { IfSome (O.files outside.old) (λ fs. IfErr result (IsAnswer (outcome.reached (commands.Convert formats.now input.now chain.now []) fs) (status_of (made_in formats.now input.now chain.now fs)))) }
+    ensures answer { IfSome (O.files outside.old) (λ fs. IfErr result
+        (IsAnswer (reached (Convert formats.now input.now chain.now []) fs) (plain_status (Convert formats.now input.now chain.now []) fs))) }
     ensures refusal { IfErr result (IsRefusal (reads Formats formats.now ∷ reads Input input.now ∷ []) (O.faults outside.old) (O.faults outside.new)) }
-    ensures means { IfSome (O.files outside.old) (λ fs. IfOk result (λ _. MeansInput (commands.Convert formats.now input.now chain.now []) fs)) }
+    ensures means { IfSome (O.files outside.old) (λ fs. IfOk result (λ made. MeansInput (Convert formats.now input.now chain.now []) fs made.bytes.items)) }
     ensures files { O.files outside.new ≡ O.files outside.old }
     ensures printed { O.printed outside.new ≡ O.printed outside.old }
     ensures later { NeverFell (O.faults outside.old) (O.faults outside.new) }

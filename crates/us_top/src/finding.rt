@@ -78,7 +78,8 @@ fn find_all<'a>(
 // The declaration of a name.
 fn find<'a>(library: &'a Library, name: &str) -> Option<&'a Decl>
     requires { All (λ d. IsValid (decl_view d)) library.now }
-    ensures found { MatchOption result (find name.now (map decl_view library.now) ≡ None) (λ d. find name.now (map decl_view library.now) ≡ Some (decl_view d.now)) }
+    ensures found { MatchOption result (find name.now (map decl_view library.now) ≡ None)
+        (λ d. find name.now (map decl_view library.now) ≡ Some (decl_view d.now)) }
     ensures valid { IfSome result (λ d. IsValid (decl_view d.now)) }
 {
     match library.find(name) {

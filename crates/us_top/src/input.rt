@@ -1,23 +1,25 @@
 //! Files that a command reads.
-ghost use Rattle.std.specs.Prelude.{◌≡◌, [], ◌∷◌, All, IfErr, IfOk, IfSome};
+ghost use Rattle.std.specs.Prelude.{◌≡◌, [], ◌∷◌, All, IfErr, IfOk, IfSome, true};
 ghost use Rattle.us_outside.specs.Causes.{NeverFell};
 ghost use Rattle.us_outside.specs.Files.{content_of};
 ghost use Rattle.us_top.specs.Commands.{reads};
-ghost use Rattle.us_top.specs.Steps.{bytes_at, library_at, library_step, map_of, read_input, input_at};
+ghost use Rattle.us_top.specs.Steps.{bytes_at, container_step, input_at, is_container, library_at, library_step, map_of};
 ghost use Rattle.us_top.specs.Library.{library_in};
-ghost use Rattle.us_top.specs.Answers.{IsStep, IsRefusal, IsInnerRefusal, refusal_of, formats_refusal_of, container_refusal_of};
+ghost use Rattle.us_top.specs.Answers.{IsStep, IsRefusal, IsInnerRefusal, formats_refusal_of, container_refusal_of};
 ghost use Rattle.us_top.specs.Views.{bytes_of, declarations_of, input_of, input_view};
+ghost use Rattle.us_top.specs.declared.status.Status.TheVariants.{ReadFault};
+ghost use Rattle.us_container.specs.Contained.{contained_in};
 ghost use Rattle.us_decl.specs.Declares.{IsValid};
 ghost use Rattle.us_decl.specs.Views.{decl_view};
 
+use crate::matrix_file::read_matrix_file;
 use crate::{Slot, Status};
 use std::alloc::Global;
 use us_check::Held;
 use us_container::{ContainerFault, read_container};
 use us_decl::Library;
 use us_matrix::Matrix;
-use us_mm::{MmFault, read_coordinate};
-use us_outside::{LoadFault, Outside, load};
+use us_outside::{LoadFault, Outside, fill, load};
 use us_parse::{DeclFault, parse_library};
 
 /// What a matrix is read from: a matrix file or a container.
@@ -49,7 +51,8 @@ impl Input {
     }
 }
 
-/// The input in the file of a slot, or the answer where it isn't read.
+/// The input in the file of a slot, or the answer where it isn't read. A container is loaded whole; of a matrix file no more
+/// than a piece is held.
 pub fn read_input<O: Outside>(
     alloc: Global,
     outside: &mut O,
@@ -62,8 +65,44 @@ pub fn read_input<O: Outside>(
     ensures printed { O.printed outside.new ≡ O.printed outside.old }
     ensures later { NeverFell (O.faults outside.old) (O.faults outside.new) }
 {
+    if is_container(outside, slot, name)? {
+        load_container(alloc, outside, slot, name)
+    } else {
+        read_matrix_file(alloc, outside, slot, name)
+    }
+}
+
+// Whether the file of a slot begins with the seven bytes of a container.
+fn is_container<O: Outside>(outside: &mut O, slot: Slot, name: &str) -> Result<bool, Status>
+    ensures tells { IfOk result (λ b. IfSome (O.files outside.old) (λ fs. b ≡ is_container (content_of fs name.now))) }
+    ensures fault { IfErr result (λ status. status ≡ ReadFault slot) }
+    ensures refusal { IfErr result (IsRefusal (reads slot name.now ∷ []) (O.faults outside.old) (O.faults outside.new)) }
+    ensures files { O.files outside.new ≡ O.files outside.old }
+    ensures printed { O.printed outside.new ≡ O.printed outside.old }
+    ensures later { NeverFell (O.faults outside.old) (O.faults outside.new) }
+{
+    let mut front = [0; 7];
+    let Ok(count) = fill(outside, name, 0, &mut front) else {
+        return Err(Status::ReadFault { slot });
+    };
+    Ok(front[..count].starts_with(b"USPARSE"))
+}
+
+// The input in a file that is a container.
+fn load_container<O: Outside>(
+    alloc: Global,
+    outside: &mut O,
+    slot: Slot,
+    name: &str,
+) -> Result<Input, Status>
+    ensures plain { IfSome (O.files outside.old) (λ fs. true ≡ is_container (content_of fs name.now) → IsStep (input_at slot (content_of fs name.now)) (input_of result)) }
+    ensures refusal { IfErr result (IsRefusal (reads slot name.now ∷ []) (O.faults outside.old) (O.faults outside.new)) }
+    ensures files { O.files outside.new ≡ O.files outside.old }
+    ensures printed { O.printed outside.new ≡ O.printed outside.old }
+    ensures later { NeverFell (O.faults outside.old) (O.faults outside.new) }
+{
     let bytes = load_file(alloc, outside, slot, name)?;
-    input_in(alloc, slot, &bytes)
+    container_in(alloc, &bytes)
 }
 
 /// The library in the file of a slot, or the answer where it isn't read.
@@ -105,21 +144,14 @@ fn load_file<O: Outside>(
     }
 }
 
-// The input that the bytes are: a container begins with its seven bytes, all else is a matrix file.
-fn input_in(alloc: Global, slot: Slot, bytes: &[u8]) -> Result<Input, Status>
-    ensures plain { IsStep (read_input slot bytes.now) (input_of result) }
+// The container that the bytes are.
+fn container_in(alloc: Global, bytes: &[u8]) -> Result<Input, Status>
+    ensures plain { IsStep (container_step (contained_in bytes.now)) (input_of result) }
     ensures refusal { IfErr result IsInnerRefusal }
 {
-    if bytes.starts_with(b"USPARSE") {
-        match read_container(alloc, bytes) {
-            Ok(held) => Ok(Input::Container(held)),
-            Err(fault) => Err(container_refusal(fault)),
-        }
-    } else {
-        match read_coordinate(alloc, bytes) {
-            Ok(matrix) => Ok(Input::File(matrix)),
-            Err(fault) => Err(refusal(slot, fault)),
-        }
+    match read_container(alloc, bytes) {
+        Ok(held) => Ok(Input::Container(held)),
+        Err(fault) => Err(container_refusal(fault)),
     }
 }
 
@@ -132,16 +164,6 @@ fn library_in(alloc: Global, bytes: &[u8]) -> Result<Library, Status>
     match parse_library(alloc, bytes) {
         Ok(library) => Ok(library),
         Err(fault) => Err(formats_refusal(fault)),
-    }
-}
-
-// The answer to a file that isn't a matrix file.
-fn refusal(slot: Slot, fault: MmFault) -> Status
-    ensures { result ≡ refusal_of slot fault }
-{
-    match fault {
-        MmFault::Memory => Status::Memory,
-        fault => Status::Matrix { slot, fault },
     }
 }
 

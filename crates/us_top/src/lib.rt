@@ -13,6 +13,8 @@ mod info;
 mod info_lines;
 mod input;
 mod line;
+mod matrix_file;
+mod read_back;
 mod report;
 mod running;
 mod status;

@@ -51,7 +51,8 @@ fn push_verdict(
     requires valid { IsValid (decl_view decl.now) }
     requires rows { shape.rows < 2 ^ 31 }
     requires cols { shape.cols < 2 ^ 31 }
-    ensures { OnOk result (out.new.items ≡ out.old.items ++ verdict_text (shape_view shape) (declaration_of (decl_view decl.now)) (first_refusal (declaration_of (decl_view decl.now)))) }
+    ensures { OnOk result (out.new.items ≡ out.old.items
+        ++ verdict_text (shape_view shape) (declaration_of (decl_view decl.now)) (first_refusal (declaration_of (decl_view decl.now)))) }
 {
     let copy = decl.copy(alloc)?;
     match judge(alloc, copy) {
@@ -67,12 +68,22 @@ fn push_accepted(out: &mut Vec<u8>, format: &Format, shape: Shape) -> Result<(),
     ensures { OnOk result (out.new.items ≡ out.old.items ++ verdict_text (shape_view shape) (declaration_of format.now) None) }
 {
     out.extend_from_slice(b" accepted")?;
-    push_part(out, format, 1, shape)?;
+    push_first(out, format, shape)?;
     for part in 1..format.parts() {
         out.extend_from_slice(b" |")?;
         push_part(out, format, part + 1, shape)?;
     }
     Ok(())
+}
+
+// The first part, which each format has.
+fn push_first(out: &mut Vec<u8>, format: &Format, shape: Shape) -> Result<(), AllocError>
+    requires rows { shape.rows < 2 ^ 31 }
+    requires cols { shape.cols < 2 ^ 31 }
+    ensures { OnOk result (out.new.items ≡ out.old.items ++ part_text (shape_view shape) (part_at (declaration_of format.now) 0)) }
+{
+    let _ = format.first_part();
+    push_part(out, format, 1, shape)
 }
 
 fn push_part(

@@ -49,7 +49,8 @@ pub enum Status {
     Refused { k: u32, why: Refusal },
     /// The file isn't a container that can be read.
     Container(ContainerFault),
-    /// The size of the k-th format of the chain, counted from 1, is above the limit of 67108864.
+    /// The size of the k-th format of the chain, counted from 1, is above the limit of 67108864; 0 is the built-in format
+    /// of the matrix file.
     TooLarge { hop: u32 },
     /// A fetch of the file failed.
     ReadFault { slot: Slot },

@@ -2,27 +2,26 @@ use Rattle.std.proofs.Common.{◌≡◌, ℤ, ◌<◌, ◌-ℤ◌, [], ◌∷◌
 use Rattle.std.proofs.lemmas.Int.{ints}
 use Rattle.std.proofs.lemmas.List.{get_or-replicate}
 use Rattle.us_expr.specs.Tree.{tree}
-use Rattle.us_expr.specs.Value.{value}
+use Rattle.us_expr.specs.Value.{IsValid, value}
 use Rattle.us_expr.specs.declared.expression.Expr.{Expr}
 use Rattle.us_format.specs.declared.Kind.TheVariants.{Full}
 use Rattle.us_format.specs.Lists.{nat_of}
 use Rattle.us_build.specs.declared.levels.Level.{Level}
-use Rattle.us_build.specs.Levels.{IsSimple, LiesInLevel}
+use Rattle.us_build.specs.Levels.{LiesInLevel}
 use Rattle.us_build.proofs.Casts.{to_z-kept}
 use Rattle.us_build.proofs.Offsets.{lies-at, offsets-end, offsets-next, offsets-none}
-use Rattle.us_build.proofs.Spans.{simple-valid, value-plain}
 use Rattle.us_build.proofs.items.coordinates_of.Goals as goal
 
 pub loop-k-init : goal.loop-k-init
 loop-k-init c =
-    offsets-none c.args.point.now.i c.args.point.now.j c.args.exprs.now c.args.levels.now c.requires.count c.requires.levels (0 ∷ 0 ∷ 0 ∷ 0 ∷ 0 ∷ 0 ∷ []) refl
+    offsets-none c.args.point.now.i c.args.point.now.j c.args.point.now.vars.items c.args.exprs.now c.args.levels.now c.requires.count c.requires.levels (0 ∷ 0 ∷ 0 ∷ 0 ∷ 0 ∷ 0 ∷ []) refl
     (λ x h. get_or-replicate 6 x 0 0 h)
 
 pub eval-requires : goal.eval-requires
 eval-requires c =
     let e : c.index-exprs-k.result ≡ get_or c.args.exprs.now c.loop-k.k c.index-exprs-k.result = c.index-exprs-k.is in
     record {
-      valid = simple-valid c.args.point.now.vars.items (tree c.index-exprs-k.result) (subst (λ (x : Expr). IsSimple (tree x)) (sym e) (c.requires.simple c.loop-k.k c.index-exprs-k.result c.loop-k-test.true)) c.requires.plain;
+      valid = subst (λ (x : Expr). IsValid c.args.point.now.vars.items (tree x)) (sym e) (c.requires.valid c.loop-k.k c.index-exprs-k.result c.loop-k-test.true);
       point = c.requires.point;
     }
 
@@ -32,10 +31,10 @@ distance-requires-clause-order c =
     let l : Level = get_or c.args.levels.now c.loop-k.k d in
     let h : FitsSigned w64 l.low = search rules in
     let g : FitsSigned w64 c.eval.result = search rules in
-    let v : c.eval.result ≡ value c.args.point.now.i c.args.point.now.j [] (tree (get_or c.args.exprs.now c.loop-k.k c.index-exprs-k.result)) =
-    value-plain c.eval.result c.args.point.now.i c.args.point.now.j c.args.point.now.vars.items (tree c.index-exprs-k.result) c.eval.ensures c.requires.plain ∙ ap (λ (x : Expr). value c.args.point.now.i c.args.point.now.j [] (tree x)) c.index-exprs-k.is in
-    let lies : LiesInLevel (value c.args.point.now.i c.args.point.now.j [] (tree (get_or c.args.exprs.now c.loop-k.k c.index-exprs-k.result))) l =
-    lies-at c.args.point.now.i c.args.point.now.j c.args.exprs.now c.args.levels.now c.loop-k.k c.index-exprs-k.result d c.loop-k-test.true c.requires.levels c.requires.lies in
+    let v : c.eval.result ≡ value c.args.point.now.i c.args.point.now.j c.args.point.now.vars.items (tree (get_or c.args.exprs.now c.loop-k.k c.index-exprs-k.result)) =
+    c.eval.ensures ∙ ap (λ (x : Expr). value c.args.point.now.i c.args.point.now.j c.args.point.now.vars.items (tree x)) c.index-exprs-k.is in
+    let lies : LiesInLevel (value c.args.point.now.i c.args.point.now.j c.args.point.now.vars.items (tree (get_or c.args.exprs.now c.loop-k.k c.index-exprs-k.result))) l =
+    lies-at c.args.point.now.i c.args.point.now.j c.args.point.now.vars.items c.args.exprs.now c.args.levels.now c.loop-k.k c.index-exprs-k.result d c.loop-k-test.true c.requires.levels c.requires.lies in
     rw (to_z-kept l.low h, to_z-kept c.eval.result g, v) lies.low
 
 pub distance-requires-clause-near : goal.distance-requires-clause-near
@@ -44,10 +43,10 @@ distance-requires-clause-near c =
     let l : Level = get_or c.args.levels.now c.loop-k.k d in
     let h : FitsSigned w64 l.low = search rules in
     let g : FitsSigned w64 c.eval.result = search rules in
-    let v : c.eval.result ≡ value c.args.point.now.i c.args.point.now.j [] (tree (get_or c.args.exprs.now c.loop-k.k c.index-exprs-k.result)) =
-    value-plain c.eval.result c.args.point.now.i c.args.point.now.j c.args.point.now.vars.items (tree c.index-exprs-k.result) c.eval.ensures c.requires.plain ∙ ap (λ (x : Expr). value c.args.point.now.i c.args.point.now.j [] (tree x)) c.index-exprs-k.is in
-    let lies : LiesInLevel (value c.args.point.now.i c.args.point.now.j [] (tree (get_or c.args.exprs.now c.loop-k.k c.index-exprs-k.result))) l =
-    lies-at c.args.point.now.i c.args.point.now.j c.args.exprs.now c.args.levels.now c.loop-k.k c.index-exprs-k.result d c.loop-k-test.true c.requires.levels c.requires.lies in
+    let v : c.eval.result ≡ value c.args.point.now.i c.args.point.now.j c.args.point.now.vars.items (tree (get_or c.args.exprs.now c.loop-k.k c.index-exprs-k.result)) =
+    c.eval.ensures ∙ ap (λ (x : Expr). value c.args.point.now.i c.args.point.now.j c.args.point.now.vars.items (tree x)) c.index-exprs-k.is in
+    let lies : LiesInLevel (value c.args.point.now.i c.args.point.now.j c.args.point.now.vars.items (tree (get_or c.args.exprs.now c.loop-k.k c.index-exprs-k.result))) l =
+    lies-at c.args.point.now.i c.args.point.now.j c.args.point.now.vars.items c.args.exprs.now c.args.levels.now c.loop-k.k c.index-exprs-k.result d c.loop-k-test.true c.requires.levels c.requires.lies in
     let size : l.size < 274877906944 = c.requires.sizes c.loop-k.k d (omega (arith, c.requires.levels, c.loop-k-test.true)) in
     rw (to_z-kept l.low h, to_z-kept c.eval.result g, v) (omega (arith, ints, lies.high, size))
 
@@ -57,11 +56,11 @@ loop-k-preserved c =
     let l : Level = get_or c.args.levels.now c.loop-k.k d in
     let h : FitsSigned w64 l.low = search rules in
     let g : FitsSigned w64 c.eval.result = search rules in
-    let v : c.eval.result ≡ value c.args.point.now.i c.args.point.now.j [] (tree (get_or c.args.exprs.now c.loop-k.k c.index-exprs-k.result)) =
-    value-plain c.eval.result c.args.point.now.i c.args.point.now.j c.args.point.now.vars.items (tree c.index-exprs-k.result) c.eval.ensures c.requires.plain ∙ ap (λ (x : Expr). value c.args.point.now.i c.args.point.now.j [] (tree x)) c.index-exprs-k.is in
-    offsets-next c.args.point.now.i c.args.point.now.j c.args.exprs.now c.args.levels.now c.requires.count c.requires.levels c.loop-k.k c.loop-k.coordinates c.index-exprs-k.result d c.distance.result
+    let v : c.eval.result ≡ value c.args.point.now.i c.args.point.now.j c.args.point.now.vars.items (tree (get_or c.args.exprs.now c.loop-k.k c.index-exprs-k.result)) =
+    c.eval.ensures ∙ ap (λ (x : Expr). value c.args.point.now.i c.args.point.now.j c.args.point.now.vars.items (tree x)) c.index-exprs-k.is in
+    offsets-next c.args.point.now.i c.args.point.now.j c.args.point.now.vars.items c.args.exprs.now c.args.levels.now c.requires.count c.requires.levels c.loop-k.k c.loop-k.coordinates c.index-exprs-k.result d c.distance.result
     c.loop-k-test.true c.loop-k.invariant
     (c.distance.ensures ∙ ap₂ (λ (a b : ℤ). nat_of (a -ℤ b)) (to_z-kept c.eval.result g ∙ v) (to_z-kept l.low h))
 
 pub returns : goal.returns
-returns c = offsets-end c.args.point.now.i c.args.point.now.j c.args.exprs.now c.args.levels.now c.requires.count c.requires.levels c.loop-k.k c.loop-k.coordinates (omega arith) c.loop-k.invariant
+returns c = offsets-end c.args.point.now.i c.args.point.now.j c.args.point.now.vars.items c.args.exprs.now c.args.levels.now c.requires.count c.requires.levels c.loop-k.k c.loop-k.coordinates (omega arith) c.loop-k.invariant

@@ -4,7 +4,7 @@ use Rattle.us_format.specs.Program.{plain_shape, entries_in}
 use Rattle.us_judge.specs.Views.{declaration_of}
 use Rattle.us_check.specs.Repeats.{IsFirstRepeat, IsInOrder, found_entries}
 use Rattle.us_check.proofs.Made.{FoundInside, found-below}
-use Rattle.us_check.proofs.ReadBack.{all-inside, collects, failed-there, few-parts, first-is, repeat-below, repeat-told, unread-told}
+use Rattle.us_check.proofs.ReadBack.{all-inside, collects, failed-there, first-is, repeat-below, repeat-told, unread-told}
 use Rattle.us_check.proofs.checking.read_matrix.Goals as goal
 
 pub first_repeated-requires : goal.first_repeated-requires
@@ -18,7 +18,7 @@ climb_fault-requires c =
     first-is (plain_shape c.args.shape) (declaration_of c.args.format.now) c.args.buffers.now c.in_ok-read.read c.in_ok-read.ensures.read c.deref.result.now c.in_ok-index.field-0 (Some c.in-Some.index) c.deref.ensures.value c.in_ok-index.ensures c.in-Some.is in
     let below : c.index.result.now.position.part < length (declaration_of c.args.format.now).parts =
     repeat-below (plain_shape c.args.shape) (declaration_of c.args.format.now) c.args.buffers.now c.in_ok-read.read c.in_ok-read.ensures.read c.in-Some.index c.index.result.now first c.index.ensures in
-    omega (arith, few-parts c.args.format.now)
+    omega (arith, c.parts.ensures, c.parts.type_inv)
 
 pub returns-in-Some-clause-fault : goal.returns-in-Some-clause-fault
 returns-in-Some-clause-fault c =
@@ -30,7 +30,7 @@ pub climb_fault-requires-in-Some-failed : goal.climb_fault-requires-in-Some-fail
 climb_fault-requires-in-Some-failed c =
     let below : c.in-Some-failed.position.part < length (declaration_of c.args.format.now).parts =
     failed-there (plain_shape c.args.shape) (declaration_of c.args.format.now) c.args.buffers.now c.in_ok-read.read c.in_ok-read.ensures.read c.in-Some-failed.position c.in-Some-failed.is in
-    omega (arith, few-parts c.args.format.now)
+    omega (arith, c.parts.ensures, c.parts.type_inv)
 
 pub returns-in-Some-failed-clause-fault : goal.returns-in-Some-failed-clause-fault
 returns-in-Some-failed-clause-fault c =

@@ -39,4 +39,4 @@ returns c =
     }
 
 pub kind-kind-requires-clause-part : goal.kind-kind-requires-clause-part
-kind-kind-requires-clause-part c = some-part c.args.format.now
+kind-kind-requires-clause-part c = some-part c.args.format.now c.requires.part.accepted.valid

@@ -15,15 +15,16 @@ use Rattle.us_layout.proofs.Arranged.{packs-fit}
 use Rattle.us_levels.specs.declared.differing.Difference.{Difference}
 use Rattle.us_levels.specs.Lists.{lists_difference, own_lists}
 use Rattle.us_levels.proofs.Owning.{is_own}
-use Rattle.us_levels.proofs.Starting.{buildable, started}
+use Rattle.us_levels.proofs.Starting.{started, walkable}
 use Rattle.us_levels.proofs.Walked.{IsCompared, compared-end, compared-front, compared-next, compared-same, compared-short, few-names, found-early, found-late, one-length, none-found, own-of, pack_cells-are, pack_cells_of, pack_lists_of, same-names, whole_difference}
 use Rattle.us_levels.proofs.differing.part_difference.Goals as goal
 
-pub start-requires : goal.start-requires
-start-requires c = buildable c.args.part.now c.args.matrix.now c.args.buffers.now c.as_slice-levels.result.now c.args.kinds.now c.shape.result c.entries.result.now c.requires.comparable c.as_slice-levels.ensures c.requires.kinds c.shape.ensures.value c.entries.ensures.value c.entries.ensures.matrix
+pub walk_of-requires-clause-walkable : goal.walk_of-requires-clause-walkable
+walk_of-requires-clause-walkable c = walkable (shape_in c.args.matrix.now) (plain_part c.args.part.now) (entries_in c.args.matrix.now) c.args.buffers.now c.requires.comparable
 
 pub loop-walk-init : goal.loop-walk-init
-loop-walk-init c = started c.args.part.now c.args.matrix.now c.args.buffers.now c.as_slice-levels.result.now c.args.kinds.now c.shape.result c.entries.result.now c.requires.comparable c.as_slice-levels.ensures c.requires.kinds c.shape.ensures.value c.entries.ensures.value c.in_ok-walk.walk c.new-lists.result c.new-lists.ensures c.in_ok-walk.ensures
+loop-walk-init c =
+    started (shape_in c.args.matrix.now) (plain_part c.args.part.now) (entries_in c.args.matrix.now) c.args.buffers.now c.requires.comparable c.in_ok-walk.walk c.new-lists.result c.new-lists.ensures c.in_ok-walk.ensures
 
 pub returns-then-is_too_long : goal.returns-then-is_too_long
 returns-then-is_too_long c =

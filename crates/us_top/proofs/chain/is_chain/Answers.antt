@@ -1,4 +1,4 @@
-use Rattle.std.proofs.Common.{sym, ◌∙◌, true, false}
+use Rattle.std.proofs.Common.{sym, ◌∙◌}
 use Rattle.std.proofs.lemmas.Bool.{false≢true}
 use Rattle.us_top.proofs.ChainLemmas.{is_above, many, unnamed, named_all}
 use Rattle.us_top.proofs.chain.is_chain.Goals.{then-count-le-MOST_NAMES, else-count-le-MOST_NAMES}

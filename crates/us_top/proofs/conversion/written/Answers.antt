@@ -14,5 +14,5 @@ returns-in-Some-clause-bytes c =
 
 pub returns-in-Some-clause-means : goal.returns-in-Some-clause-means
 returns-in-Some-clause-means c =
-    IfOk-weaker c.container.result _ _ (λ v m. meant_last c.args.chain.now c.args.formats.items c.pop.new.self.items c.in-Some.format c.args.matrix c.if-ends_in_text.ensures c.in-Some.ensures.items m)
+    IfOk-weaker c.container.result _ _ (λ v m. meant_last c.args.chain.now c.args.formats.items c.pop.new.self.items c.in-Some.format c.args.matrix v.items c.if-ends_in_text.ensures c.in-Some.ensures.items m)
     c.container.ensures.means

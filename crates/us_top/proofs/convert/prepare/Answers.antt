@@ -1,4 +1,4 @@
-use Rattle.std.proofs.Common.{◌≡◌, ◌∷◌, []}
+use Rattle.std.proofs.Common.{◌∷◌, [], Ok, Err}
 use Rattle.std.proofs.lemmas.Option.{IfSome_then}
 use Rattle.std.proofs.lemmas.Result.{IfErr-weaker, IfOk-weaker, err_from_is_err_and}
 use Rattle.us_top.specs.declared.status.Slot.TheVariants.{Formats, Input}
@@ -6,7 +6,7 @@ use Rattle.us_top.specs.Commands.{reads}
 use Rattle.us_top.specs.Views.{input_view}
 use Rattle.us_top.proofs.InputLemmas.{inner_refusal}
 use Rattle.us_top.proofs.AnswerLemmas.{both, refusal_before, refusal_behind, refusal_in_front}
-use Rattle.us_top.proofs.ConvertLemmas.{formats_end, formats_answer, input_ends, input_answer, make_plain, make_answer, means_behind}
+use Rattle.us_top.proofs.ConvertLemmas.{input_before, formats_end, formats_answer, input_ends, input_answer, make_plain, make_answer, means_behind}
 use Rattle.us_top.proofs.convert.prepare.Goals as goal
 
 pub returns-in_err-formats-clause-plain : goal.returns-in_err-formats-clause-plain
@@ -29,7 +29,7 @@ pub returns-in_err-formats-clause-refusal : goal.returns-in_err-formats-clause-r
 returns-in_err-formats-clause-refusal g c =
     let p = err_from_is_err_and c.from_residual.result c.from_residual.ensures.1 in
     rw (p.1, p.2)
-    (refusal_in_front (g.O.Outside.faults c.args.outside.now) (g.O.Outside.faults c.read_chain.new.outside) (reads Formats c.args.formats.now) (reads Input c.args.input.now ∷ [])
+    (refusal_in_front (g.O.Outside.faults c.args.outside.now) (g.O.Outside.faults c.read_chain.new.outside) (reads Formats c.args.formats.now ∷ []) (reads Input c.args.input.now ∷ [])
     c.in_err-formats.field-0.0
     c.in_err-formats.ensures.refusal)
 
@@ -37,14 +37,14 @@ pub returns-in_err-input-clause-plain : goal.returns-in_err-input-clause-plain
 returns-in_err-input-clause-plain g c =
     let p = err_from_is_err_and c.from_residual-in_err-input.result c.from_residual-in_err-input.ensures.1 in
     rw (p.1, p.2)
-    (both (g.O.Outside.files c.args.outside.now) c.in_ok-formats.ensures.plain (rw c.in_ok-formats.ensures.files at c.in_err-input.ensures.plain)
+    (both (g.O.Outside.files c.args.outside.now) c.in_ok-formats.ensures.plain (input_before c.args.input.now (Err c.in_err-input.field-0.0) _ _ c.in_ok-formats.ensures.files c.in_err-input.ensures.plain)
     (λ fs e h. input_ends c.args.formats.now c.args.input.now c.args.chain.now fs c.in_ok-formats.formats.items c.in_err-input.field-0.0 e h))
 
 pub returns-in_err-input-clause-answer : goal.returns-in_err-input-clause-answer
 returns-in_err-input-clause-answer g c =
     let p = err_from_is_err_and c.from_residual-in_err-input.result c.from_residual-in_err-input.ensures.1 in
     rw (p.1, p.2)
-    (both (g.O.Outside.files c.args.outside.now) c.in_ok-formats.ensures.plain (rw c.in_ok-formats.ensures.files at c.in_err-input.ensures.plain)
+    (both (g.O.Outside.files c.args.outside.now) c.in_ok-formats.ensures.plain (input_before c.args.input.now (Err c.in_err-input.field-0.0) _ _ c.in_ok-formats.ensures.files c.in_err-input.ensures.plain)
     (λ fs e h.
     input_answer c.args.formats.now c.args.input.now c.args.chain.now fs c.in_ok-formats.formats.items (g.O.Outside.faults c.read_chain.new.outside) (g.O.Outside.faults c.read_input.new.outside)
     c.in_err-input.field-0.0 e h c.in_err-input.ensures.refusal))
@@ -62,14 +62,14 @@ returns-in_err-input-clause-refusal g c =
 
 pub returns-clause-plain : goal.returns-clause-plain
 returns-clause-plain g c =
-    both (g.O.Outside.files c.args.outside.now) c.in_ok-formats.ensures.plain (rw c.in_ok-formats.ensures.files at c.in_ok-input.ensures.plain)
+    both (g.O.Outside.files c.args.outside.now) c.in_ok-formats.ensures.plain (input_before c.args.input.now (Ok (input_view c.in_ok-input.input)) _ _ c.in_ok-formats.ensures.files c.in_ok-input.ensures.plain)
     (λ fs e h.
     make_plain c.args.formats.now c.args.input.now c.args.chain.now fs c.in_ok-formats.formats.items (input_view c.in_ok-input.input) c.into_matrix.result c.make.result e h c.into_matrix.ensures
     c.make.ensures.plain)
 
 pub returns-clause-answer : goal.returns-clause-answer
 returns-clause-answer g c =
-    both (g.O.Outside.files c.args.outside.now) c.in_ok-formats.ensures.plain (rw c.in_ok-formats.ensures.files at c.in_ok-input.ensures.plain)
+    both (g.O.Outside.files c.args.outside.now) c.in_ok-formats.ensures.plain (input_before c.args.input.now (Ok (input_view c.in_ok-input.input)) _ _ c.in_ok-formats.ensures.files c.in_ok-input.ensures.plain)
     (λ fs e h.
     make_answer c.args.formats.now c.args.input.now c.args.chain.now fs c.in_ok-formats.formats.items (input_view c.in_ok-input.input) c.into_matrix.result c.make.result e h c.into_matrix.ensures
     c.make.ensures.plain c.make.ensures.refusal)
@@ -82,8 +82,8 @@ returns-clause-refusal g c =
 
 pub returns-clause-means : goal.returns-clause-means
 returns-clause-means g c =
-    both (g.O.Outside.files c.args.outside.now) c.in_ok-formats.ensures.plain (rw c.in_ok-formats.ensures.files at c.in_ok-input.ensures.plain)
+    both (g.O.Outside.files c.args.outside.now) c.in_ok-formats.ensures.plain (input_before c.args.input.now (Ok (input_view c.in_ok-input.input)) _ _ c.in_ok-formats.ensures.files c.in_ok-input.ensures.plain)
     (λ fs e h.
     IfOk-weaker c.make.result _ _
-    (λ _ m. means_behind c.args.formats.now c.args.input.now c.args.chain.now [] fs c.in_ok-formats.formats.items (input_view c.in_ok-input.input) c.into_matrix.result e h c.into_matrix.ensures m)
+    (λ made m. means_behind c.args.formats.now c.args.input.now c.args.chain.now [] fs c.in_ok-formats.formats.items (input_view c.in_ok-input.input) c.into_matrix.result made.bytes.items e h c.into_matrix.ensures m)
     c.make.ensures.means)

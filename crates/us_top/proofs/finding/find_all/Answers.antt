@@ -1,4 +1,4 @@
-use Rattle.std.proofs.Common.{◌≤◌, length, map, arith}
+use Rattle.std.proofs.Common.{map, arith}
 use Rattle.us_decl.specs.Views.{decl_view}
 use Rattle.us_top.proofs.FindingLemmas.{finding_none, finding_more, finding_missing, finding_all}
 use Rattle.us_top.proofs.finding.find_all.Goals as goal

@@ -16,13 +16,13 @@ use Rattle.us_climb.proofs.reader.Reader.of.Goals as goal
 
 pub ranges_of-requires-clause-names : goal.ranges_of-requires-clause-names
 ranges_of-requires-clause-names c =
-    let same : plain_part c.part-part.result.now ≡ part_at (declaration_of c.args.format.now) 0 = c.part-part.ensures.is in
-    subst (λ (q : Part). q.names ≤ 32) (sym same) (names-few c.args.format.now c.part-part.ensures.valid)
+    let same : plain_part c.first_part-part.result.now ≡ part_at (declaration_of c.args.format.now) 0 = c.first_part-part.ensures.is in
+    subst (λ (q : Part). q.names ≤ 32) (sym same) (names-few c.args.format.now c.first_part-part.ensures.valid)
 
 pub returns-clause-ready : goal.returns-clause-ready
 returns-clause-ready c =
     let s = plain_shape c.args.shape in
-    let same : plain_part c.part-part.result.now ≡ part_at (declaration_of c.args.format.now) 0 = c.part-part.ensures.is in
+    let same : plain_part c.first_part-part.result.now ≡ part_at (declaration_of c.args.format.now) 0 = c.first_part-part.ensures.is in
     let vars : c.ranges_of.result.vars.items ≡ variable_ranges (plain_shape c.args.shape) [] (part_at (declaration_of c.args.format.now) 0) = c.ranges_of.ensures.vars ∙ ap (variable_ranges (plain_shape c.args.shape) []) same in
     record {
       undivided = c.of-layout.ensures.undivided;
@@ -39,14 +39,11 @@ returns-clause-ready c =
         rangeable =
             subst (λ (rs : List Range). All (λ x. IsRangeable rs x.0) c.plan.result.now) (sym vars)
             (subst (λ (steps : Steps). All (λ x. IsRangeable (variable_ranges (plain_shape c.args.shape) [] (part_at (declaration_of c.args.format.now) 0)) x.0) steps) (sym c.plan.ensures)
-            (reads-rangeable c.args.format.now (record { valid = c.part-part.ensures.valid; kept = c.part-part.ensures.accepted }) c.of-layout.ensures.undivided s));
+            (reads-rangeable c.args.format.now (record { valid = c.first_part-part.ensures.valid; kept = c.first_part-part.ensures.accepted }) c.of-layout.ensures.undivided s));
       };
       no_tables = c.new.ensures;
       no_extents = c.new-2.ensures;
     }
 
-pub part-part-requires-clause-part : goal.part-part-requires-clause-part
-part-part-requires-clause-part c = some-part c.args.format.now
-
 pub plan-requires-clause-part : goal.plan-requires-clause-part
-plan-requires-clause-part c = some-part c.args.format.now
+plan-requires-clause-part c = some-part c.args.format.now c.first_part-part.ensures.valid

@@ -1,0 +1,37 @@
+-- What a run of a command gives.
+use Rattle.std.specs.Prelude.{◌≡◌, ◌≢◌, ℕ, List, Option, IfSome, false}
+use Rattle.us_outside.specs.Causes.{Faults}
+use Rattle.us_outside.specs.Files.{Files}
+use Rattle.us_top.specs.declared.status.Status.{Status}
+use Rattle.us_top.specs.declared.status.Status.TheVariants.{Words}
+use Rattle.us_top.specs.Commands.{Command, uses, prints}
+use Rattle.us_top.specs.Outcome.{Allows, plain_status, reached}
+use Rattle.us_top.specs.Answers.{IsAnswer, IsCaused, IsPlainOrMemory, NoneRose}
+use Rattle.us_top.specs.Stands.{Outcome, Stands}
+use Rattle.us_top.specs.Headline.{DoneMeans}
+
+-- what an outside tells: its files, what was printed, and its counts of faults
+pub record Told : Type 0 where
+  pub files : Option Files
+  pub printed : Option (List ℕ)
+  pub faults : Faults
+
+abbrev pub told : Option Files → Option (List ℕ) → Faults → Told
+told files printed faults = record { files = files; printed = printed; faults = faults }
+
+-- there is an outcome that the command allows, and it stands
+abbrev pub SomeStands : Command → Status → Files → Option (List ℕ) → Option Files → Option (List ℕ) → Type 0
+SomeStands command answer fs printed fs' printed' = (o : Outcome) × Allows command fs o × Stands o answer fs printed fs' printed'
+
+pub record IsRun (command : Command) (before now : Told) (answer : Status) : Type 0 where
+  -- where files are told, the answer is that of the command's steps, or want of memory, or a fault
+  pub plain : IfSome before.files (λ fs. IsAnswer (reached command fs) (plain_status command fs) answer)
+  pub words : answer ≢ Words
+  -- a fault comes only where the count of that call and file rose, and where none rose there is no fault
+  pub cause : IsCaused (uses command) before.faults now.faults answer
+  pub complete : NoneRose (uses command) before.faults now.faults → IfSome before.files (λ fs. IsPlainOrMemory (plain_status command fs) answer)
+  -- an allowed outcome stands, whole after `Done`, and up to the failing place after a failed write
+  pub stands : IfSome before.files (λ fs. SomeStands command answer fs before.printed now.files now.printed)
+  -- the bytes of the output of `convert` read back as a container, and its buffers mean the input's matrix, by the format's own definition
+  pub means : IfSome before.files (λ fs. DoneMeans answer command fs now.files)
+  pub printed : prints command ≡ false → now.printed ≡ before.printed
