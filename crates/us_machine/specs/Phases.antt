@@ -79,7 +79,8 @@ pub record CanMake (t : Tables) (sources : List (List ℤ)) (steps : ℕ) (ms : 
 
 abbrev pub Makes : Tables → Tables → List (List ℤ) → Result (Unit {0}) RunStop → ℕ → ℕ → List Make → Type 0
 Makes old new sources result steps steps' ms =
-    (p : Point) → IsAt old sources steps p → TypedMakes p.context ms → Ends old.budget result (make_all ms (world_at old sources p)) (λ w. Next new sources steps' p (with_bufs p.context ms) w)
+    (p : Point) → IsAt old sources steps p → TypedMakes p.context ms
+    → Ends old.budget result (make_all ms (world_at old sources p)) (λ w. Next new sources steps' p (with_bufs p.context ms) w)
 
 -- dim lines that may run from here
 pub record CanName (t : Tables) (sources : List (List ℤ)) (steps : ℕ) (regs : ℕ → ℤ) (ls : List LineTree) : Type 0 where
@@ -91,7 +92,8 @@ pub record CanName (t : Tables) (sources : List (List ℤ)) (steps : ℕ) (regs 
 
 abbrev pub Names : Tables → Tables → List (List ℤ) → Result (Unit {0}) RunStop → ℕ → ℕ → (ℕ → ℤ) → List LineTree → Type 0
 Names old new sources result steps steps' regs ls =
-    (p : Point) → IsAt old sources steps p → p.regs ≡ regs → TypedLines p.context ls → Ends old.budget result (line_all regs ls (world_at old sources p)) (λ w. Next new sources steps' p (with_lines p.context ls) w)
+    (p : Point) → IsAt old sources steps p → p.regs ≡ regs → TypedLines p.context ls
+    → Ends old.budget result (line_all regs ls (world_at old sources p)) (λ w. Next new sources steps' p (with_lines p.context ls) w)
 
 -- the region has all lists of the plan
 pub record IsWhole (t : Tables) (r : Lists) : Type 0 where

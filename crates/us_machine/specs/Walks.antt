@@ -46,7 +46,8 @@ pub record Sized (t : Tables) (sources : List (List ℤ)) (g : Context) : Type 0
   pub dims : (d : ℕ) → held t.dims d ≤ 67108865
   pub factors : (d : ℕ) → held t.factors d < 2 ^ 63
   pub short : (k : ℕ) → length (at_source sources k) ≤ 67108865
-  pub wide : (b : ℕ) (v : ℤ) → is_some (g.bufs b) ≡ true → InKind (env_of t sources) (buf_cell (g.bufs b)) v → Holds (get_or (widths_of t.plan.items) (held t.segs b) W8) v
+  pub wide : (b : ℕ) (v : ℤ) → is_some (g.bufs b) ≡ true → InKind (env_of t sources) (buf_cell (g.bufs b)) v
+      → Holds (get_or (widths_of t.plan.items) (held t.segs b) W8) v
 
 -- a block that keeps the rules in a context that the state fits
 pub record Ready (t : Tables) (sources : List (List ℤ)) (r : Lists) (regs : ℕ → ℤ) (g : Context) (c : Code) : Type 0 where

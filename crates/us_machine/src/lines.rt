@@ -19,7 +19,8 @@ use us_matrix::Buffers;
 impl Tables {
     /// A dim gets its value, and the right factor where it is a product.
     fn name_dim(&mut self, dim: u32, value: u64, factor: u64) -> Result<(), AllocError>
-        ensures dims { OnOk result ((held self.new.dims ≡ put (held self.old.dims) dim value) × (held self.new.factors ≡ put (held self.old.factors) dim factor)) }
+        ensures dims { OnOk result ((held self.new.dims ≡ put (held self.old.dims) dim value)
+            × (held self.new.factors ≡ put (held self.old.factors) dim factor)) }
         ensures plan { (self.new.plan ≡ self.old.plan) × (self.new.segs ≡ self.old.segs) × (self.new.budget ≡ self.old.budget) }
     {
         self.dims.set(dim, value)?;

@@ -105,8 +105,11 @@ pub fn order(
     steps: &mut u64,
 ) -> Result<(), RunStop>
     requires { CanOrder tables.now region.old buf keys.now }
-    ensures { (sources : List (List ℤ)) (regs : ℕ → ℤ) (g : Context) (n : ℕ) → Ready tables.now sources region.old regs g (plain.Order buf keys.now plain.End) → Shows tables.now.budget steps.old (n + 1)
-        → Leads tables.now sources result (exec (env_of tables.now sources) (plain.Order buf keys.now plain.End) (state_of tables.now region.old regs n)) region.new regs steps.new }
+    ensures { (sources : List (List ℤ)) (regs : ℕ → ℤ) (g : Context) (n : ℕ)
+        → Ready tables.now sources region.old regs g (plain.Order buf keys.now plain.End) → Shows tables.now.budget steps.old (n + 1)
+        → Leads tables.now sources result
+        (exec (env_of tables.now sources) (plain.Order buf keys.now plain.End) (state_of tables.now region.old regs n))
+        region.new regs steps.new }
 {
     let seg = tables.segment(buf);
     let len = tables.plan[seg].len;

@@ -44,7 +44,8 @@ pub fn assign(
     regs: &mut Registers,
 ) -> Result<(), RunStop>
     requires { IsEvaluable tables.now source.now (regs_of regs.old) (term_tree value.now) }
-    ensures ok { OnOk result (regs_of regs.new ≡ run.put (regs_of regs.old) reg (run.value (env_of tables.now source.now) (regs_of regs.old) (term_tree value.now))) }
+    ensures ok { OnOk result (regs_of regs.new
+        ≡ run.put (regs_of regs.old) reg (run.value (env_of tables.now source.now) (regs_of regs.old) (term_tree value.now))) }
     ensures memory { IfErr result (λ e. e ≡ Memory) }
 {
     let value = eval(value, tables, source, regs);
@@ -63,7 +64,8 @@ pub fn load(
     region: &Region,
 ) -> Result<(), RunStop>
     requires { (g : Context) × Ready tables.now source.now region.now (regs_of regs.old) g (plain.Load reg buf (term_tree at.now) plain.End) }
-    ensures ok { OnOk result ((n : ℕ) → exec (env_of tables.now source.now) (plain.Load reg buf (term_tree at.now) plain.End) (state_of tables.now region.now (regs_of regs.old) n)
+    ensures ok { OnOk result ((n : ℕ)
+        → exec (env_of tables.now source.now) (plain.Load reg buf (term_tree at.now) plain.End) (state_of tables.now region.now (regs_of regs.old) n)
         ≡ state_of tables.now region.now (regs_of regs.new) (n + 1)) }
     ensures memory { IfErr result (λ e. e ≡ Memory) }
 {
@@ -84,7 +86,9 @@ pub fn store(
     region: &mut Region,
 )
     requires { (g : Context) × Ready tables.now source.now region.old (regs_of regs.now) g (plain.Set buf (term_tree at.now) (term_tree value.now) plain.End) }
-    ensures runs { (n : ℕ) → exec (env_of tables.now source.now) (plain.Set buf (term_tree at.now) (term_tree value.now) plain.End) (state_of tables.now region.old (regs_of regs.now) n)
+    ensures runs { (n : ℕ)
+        → exec (env_of tables.now source.now) (plain.Set buf (term_tree at.now) (term_tree value.now) plain.End)
+        (state_of tables.now region.old (regs_of regs.now) n)
         ≡ state_of tables.now region.new (regs_of regs.now) (n + 1) }
     ensures stands { Stands tables.now source.now region.new }
 {

@@ -31,7 +31,9 @@ pub fn run_block(
 ) -> Result<(), RunStop>
     requires { (g : Context) × Ready tables.now source.now region.old (regs_of regs.old) g (tree_of block.now) }
     ensures { (n : ℕ) → Shows tables.now.budget steps.old n
-        → Leads tables.now source.now result (exec (env_of tables.now source.now) (tree_of block.now) (state_of tables.now region.old (regs_of regs.old) n)) region.new (regs_of regs.new) steps.new }
+        → Leads tables.now source.now result
+        (exec (env_of tables.now source.now) (tree_of block.now) (state_of tables.now region.old (regs_of regs.old) n))
+        region.new (regs_of regs.new) steps.new }
 {
     for stmt in block.stmts.as_slice() {
         run_stmt(stmt, tables, source, alloc, regs, region, steps)?;
@@ -52,7 +54,9 @@ fn run_stmt(
 ) -> Result<(), RunStop>
     requires { (g : Context) × Ready tables.now source.now region.old (regs_of regs.old) g (alone stmt.now) }
     ensures { (n : ℕ) → Shows tables.now.budget steps.old n
-        → Leads tables.now source.now result (exec (env_of tables.now source.now) (alone stmt.now) (state_of tables.now region.old (regs_of regs.old) n)) region.new (regs_of regs.new) steps.new }
+        → Leads tables.now source.now result
+        (exec (env_of tables.now source.now) (alone stmt.now) (state_of tables.now region.old (regs_of regs.old) n))
+        region.new (regs_of regs.new) steps.new }
 {
     tables.budget.charge(steps, 1)?;
     match stmt {
@@ -134,7 +138,10 @@ fn run_turns(
 ) -> Result<(), RunStop>
     requires { (g : Context) × Turning tables.now source.now region.old (regs_of regs.old) g reg end (tree_of body.now) }
     ensures { (n : ℕ) → Shows tables.now.budget steps.old n
-        → Leads tables.now source.now result (turns (end - first) (turn_from (env_of tables.now source.now) reg first (tree_of body.now)) (state_of tables.now region.old (regs_of regs.old) n)) region.new (regs_of regs.new) steps.new }
+        → Leads tables.now source.now result
+        (turns (end - first) (turn_from (env_of tables.now source.now) reg first (tree_of body.now))
+        (state_of tables.now region.old (regs_of regs.old) n))
+        region.new (regs_of regs.new) steps.new }
 {
     let count = end.saturating_sub(first);
     for turn in 0..count {
@@ -158,7 +165,9 @@ fn run_other(
 ) -> Result<(), RunStop>
     requires { (g : Context) × Ready tables.now source.now region.old (regs_of regs.old) g (other_tree other.now) }
     ensures { (n : ℕ) → Shows tables.now.budget steps.old n
-        → Leads tables.now source.now result (exec (env_of tables.now source.now) (other_tree other.now) (state_of tables.now region.old (regs_of regs.old) n)) region.new (regs_of regs.new) steps.new }
+        → Leads tables.now source.now result
+        (exec (env_of tables.now source.now) (other_tree other.now) (state_of tables.now region.old (regs_of regs.old) n))
+        region.new (regs_of regs.new) steps.new }
 {
     match other {
         None => Ok(()),
