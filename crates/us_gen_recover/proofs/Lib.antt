@@ -1,0 +1,4 @@
+pub mod Building
+pub mod StepsFit
+pub mod StepsLie
+pub mod StepsRun

@@ -1,0 +1,4 @@
+pub mod Ranges
+pub mod Recovery
+pub mod Rooms
+pub mod Values
