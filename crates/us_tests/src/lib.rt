@@ -4,6 +4,8 @@
 #[cfg(test)]
 mod code_rules;
 #[cfg(test)]
+mod code_runs;
+#[cfg(test)]
 mod code_texts;
 #[cfg(test)]
 mod commands;

@@ -7,7 +7,9 @@ pub mod FindingLemmas
 pub mod EndingLemmas
 pub mod InfoLemmas
 pub mod InputLemmas
+pub mod LineLemmas
 pub mod PiecesLemmas
 pub mod ReadBackLemmas
 pub mod ReportLemmas
+pub mod RunCodeLemmas
 pub mod RunLemmas

@@ -8,10 +8,10 @@ use Rattle.us_outside.specs.Files.{Files, content_of, stored}
 use Rattle.us_parse.specs.Laws.{LibraryLaw}
 use Rattle.us_parse.specs.Parses.{tokens_of}
 use Rattle.us_top.specs.declared.status.Slot.{Slot}
-use Rattle.us_top.specs.declared.status.Slot.TheVariants.{Formats, Input}
+use Rattle.us_top.specs.declared.status.Slot.TheVariants.{Formats, Input, Code}
 use Rattle.us_top.specs.declared.status.Status.{Status}
 use Rattle.us_top.specs.declared.status.Status.TheVariants.{Done, WriteFault, Memory}
-use Rattle.us_top.specs.Commands.{Command, Canon, Check, Convert, Info, Use, prints, reads, uses}
+use Rattle.us_top.specs.Commands.{Command, Canon, Check, Convert, Run, Info, Use, prints, reads, uses}
 use Rattle.us_top.specs.Steps.{status_of}
 use Rattle.us_top.specs.Outcome.{Given, Makes, MayMake, plain_status, reached, steps}
 use Rattle.us_top.specs.Answers.{IsAnswer, IsCaused, IsPlainOrMemory, IsRefusal, IsStep, NoneRose, writes}
@@ -25,6 +25,7 @@ some_made : (command : Command) (given : Given command) → (o : Outcome) × Mak
 some_made (Canon input output) given = (_, refl)
 some_made (Check formats shape) given = (_, refl)
 some_made (Convert formats input chain output) given = (_, refl)
+some_made (Run code input output budget) given = (_, refl)
 some_made (Info input) given = (_, refl)
 
 some_outcome : (command : Command) (r : Result (Given command) Status) → (o : Outcome) × MayMake command r o
@@ -102,6 +103,7 @@ abbrev pub MadeMeans : (command : Command) → Given command → Files → Type 
 MadeMeans (Convert formats input chain output) made fs = MeansInput (Convert formats input chain output) fs made.bytes
 MadeMeans (Canon input output) i fs = Unit {0}
 MadeMeans (Check formats shape) ds fs = Unit {0}
+MadeMeans (Run code input output budget) made fs = Unit {0}
 MadeMeans (Info input) i fs = Unit {0}
 
 -- a file that was stored holds these bytes
@@ -115,6 +117,7 @@ output_means (Convert formats input chain output) made o fs h m =
     (subst (MeansInput (Convert formats input chain output) fs) (sym (stored_content fs output made.bytes)) h)
 output_means (Canon input output) i o fs h m = tt
 output_means (Check formats shape) ds o fs h m = tt
+output_means (Run code input output budget) made o fs h m = tt
 output_means (Info input) i o fs h m = tt
 
 done_means : (status : Status) (command : Command) (given : Given command) (o : Outcome) (fs : Files) (printed : Option (List ℕ)) (fs' : Option Files) (printed' : Option (List ℕ))
@@ -130,6 +133,7 @@ no_print : (command : Command) (given : Given command) (o : Outcome) → Makes c
 no_print (Canon input output) given o h e = ap (λ (o : Outcome). o.prints) h
 no_print (Check formats shape) given o h e = cc
 no_print (Convert formats input chain output) given o h e = cc
+no_print (Run code input output budget) given o h e = cc
 no_print (Info input) given o h e = cc
 
 -- the calls of a command are its reads and those that make its outcome
@@ -137,12 +141,14 @@ abbrev reads_of : Command → List Use
 reads_of (Canon input output) = reads Input input ∷ []
 reads_of (Check formats shape) = reads Formats formats ∷ []
 reads_of (Convert formats input chain output) = reads Formats formats ∷ reads Input input ∷ []
+reads_of (Run code input output budget) = reads Code code ∷ reads Input input ∷ []
 reads_of (Info input) = reads Input input ∷ []
 
 made_uses : (command : Command) (given : Given command) (o : Outcome) → Makes command given o → uses command ≡ reads_of command ++ writes o
 made_uses (Canon input output) given o h = ap (λ (o : Outcome). (reads Input input ∷ []) ++ writes o) (sym h)
 made_uses (Check formats shape) given o h = ap (λ (o : Outcome). (reads Formats formats ∷ []) ++ writes o) (sym h)
 made_uses (Convert formats input chain output) given o h = ap (λ (o : Outcome). (reads Formats formats ∷ reads Input input ∷ []) ++ writes o) (sym h)
+made_uses (Run code input output budget) given o h = ap (λ (o : Outcome). (reads Code code ∷ reads Input input ∷ []) ++ writes o) (sym h)
 made_uses (Info input) given o h = ap (λ (o : Outcome). (reads Input input ∷ []) ++ writes o) (sym h)
 
 -- what stands at the end of a command, between what the outside told when all steps had passed and tells now
@@ -212,6 +218,7 @@ library_reads law command None = tt
 library_reads law (Canon input output) (Some fs) = tt
 library_reads law (Check formats shape) (Some fs) = law (tokens_of (content_of fs formats))
 library_reads law (Convert formats input chain output) (Some fs) = law (tokens_of (content_of fs formats))
+library_reads law (Run code input output budget) (Some fs) = tt
 library_reads law (Info input) (Some fs) = tt
 
 pub all_library_reads : LibraryLaw → (command : Option Command) (o : Option Files) → IfSome command (λ command. IfSome o (LibraryReads command))

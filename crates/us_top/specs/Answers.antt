@@ -6,11 +6,19 @@ use Rattle.us_parse.specs.declared.parsed.DeclFault.{DeclFault}
 use Rattle.us_parse.specs.declared.parsed.DeclFault.TheVariants as decl
 use Rattle.us_container.specs.declared.fault.ContainerFault.{ContainerFault}
 use Rattle.us_container.specs.declared.fault.ContainerFault.TheVariants as container
+use Rattle.us_bounds.specs.declared.fault.VerifyFault.{VerifyFault}
+use Rattle.us_bounds.specs.declared.fault.VerifyFault.TheVariants as bounds
+use Rattle.us_judge.specs.declared.refusal.JudgeFault.{JudgeFault}
+use Rattle.us_judge.specs.declared.refusal.JudgeFault.TheVariants as judged
+use Rattle.us_check.specs.declared.broken.Broken.{Broken}
+use Rattle.us_check.specs.declared.broken.Broken.TheVariants as broken
+use Rattle.us_code_reader.specs.declared.parsed.CodeFault.{CodeFault}
+use Rattle.us_code_reader.specs.declared.parsed.CodeFault.TheVariants as code
 use Rattle.us_outside.specs.Causes.{Faults, Rose}
 use Rattle.us_outside.specs.declared.outside.Call.TheVariants.{Fetch}
 use Rattle.us_top.specs.declared.status.Slot.{Slot}
 use Rattle.us_top.specs.declared.status.Status.{Status}
-use Rattle.us_top.specs.declared.status.Status.TheVariants.{Done, Words, Matrix, ReadFault, WriteFault, Memory, Formats, Container}
+use Rattle.us_top.specs.declared.status.Status.TheVariants.{Done, Words, Matrix, ReadFault, WriteFault, Memory, Formats, Container, Code, NotWellFormed, Refused, Unbound}
 use Rattle.us_top.specs.Commands.{Use, print_use, stores}
 use Rattle.us_top.specs.Stands.{Store, Outcome}
 
@@ -87,6 +95,26 @@ formats_refusal_of fault = Formats fault
 abbrev pub container_refusal_of : ContainerFault → Status
 container_refusal_of container.Memory = Memory
 container_refusal_of fault = Container fault
+
+-- the answer to a fault of the reader of units
+abbrev pub code_refusal_of : CodeFault → Status
+code_refusal_of code.Memory = Memory
+code_refusal_of fault = Code fault
+
+-- the answer to a target that is not accepted
+abbrev pub target_refusal_of : JudgeFault → Status
+target_refusal_of (judged.Refused why) = Refused 1 why
+target_refusal_of judged.Memory = Memory
+
+-- the answer to a program that breaks a rule
+abbrev pub verify_refusal_of : VerifyFault → Status
+verify_refusal_of (bounds.Unbound u) = Unbound u
+verify_refusal_of bounds.Memory = Memory
+
+-- the answer to buffers that are not well-formed
+abbrev pub broken_refusal_of : Broken → Status
+broken_refusal_of broken.Memory = Memory
+broken_refusal_of why = NotWellFormed why
 
 -- the answers with which a step may end a command: it stores and prints nothing, and a read fault comes only where a fetch of that slot failed
 abbrev pub IsRefusal : List Use → Faults → Faults → Status → Type 0

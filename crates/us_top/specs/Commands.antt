@@ -1,5 +1,5 @@
 -- The commands, the words that say them, and the calls of the outside that they may make.
-use Rattle.std.specs.Prelude.{ℕ, List, [], ◌∷◌, length, nat_le, not, ◌==◌, ◌&&◌, map, Option, Some, None, string_bytes, codes, if◌then◌else◌, Bool, true, false}
+use Rattle.std.specs.Prelude.{ℕ, List, [], ◌∷◌, length, nat_le, nat_lt, not, ◌==◌, ◌&&◌, map, Option, Some, None, string_bytes, codes, if◌then◌else◌, Bool, true, false}
 use Rattle.std.specs.List.{slice_split, filter, list_all, list_any}
 use Rattle.std.specs.declared.string.String.{String}
 use Rattle.std.specs.declared.alloc.Global.{Global}
@@ -12,12 +12,13 @@ use Rattle.us_mm.specs.Words.{is_numeral}
 use Rattle.us_mm.specs.Reads.{is_side}
 use Rattle.std.specs.Str.Parse.{digits_value}
 use Rattle.us_top.specs.declared.status.Slot.{Slot}
-use Rattle.us_top.specs.declared.status.Slot.TheVariants.{Formats, Input, Output, Print}
+use Rattle.us_top.specs.declared.status.Slot.TheVariants.{Formats, Input, Code, Output, Print}
 
 pub data Command : Type 0 where
   Canon : List ℕ → List ℕ → Command  -- the names of the input and of the output
   Check : List ℕ → Shape → Command  -- the name of the library, and a shape
   Convert : List ℕ → List ℕ → List ℕ → List ℕ → Command  -- the names of the library and of the input, the chain of formats, and the name of the output
+  Run : List ℕ → List ℕ → List ℕ → ℕ → Command  -- the names of the code, of the input and of the output, and the most steps
   Info : List ℕ → Command  -- the name of the input
 
 abbrev pub texts : List (String Global) → List (List ℕ)
@@ -26,6 +27,10 @@ texts words = map (λ w. string_bytes w) words
 -- 1 to 20 digits that write a number from 1 to 2147483647: as many rows, or columns
 unfoldable pub side_of : List ℕ → Option ℕ
 side_of w = if is_numeral w && (nat_le (length w) 20 && is_side (digits_value 10 w)) then Some (digits_value 10 w) else None
+
+-- 1 to 20 digits that write a number of at most 2^64 - 1: as many steps
+unfoldable pub budget_of : List ℕ → Option ℕ
+budget_of w = if is_numeral w && (nat_le (length w) 20 && nat_lt (digits_value 10 w) 18446744073709551616) then Some (digits_value 10 w) else None
 
 -- ---- chains of formats
 
@@ -77,6 +82,14 @@ convert_of (formats ∷ input ∷ chain ∷ output ∷ listing ∷ []) =
     if is_chain chain && bytes_eq listing (codes "-") then Some (Convert formats input chain output) else None
 convert_of _ = None
 
+abbrev pub run_with : List ℕ → List ℕ → List ℕ → Option ℕ → Option Command
+run_with code input output (Some budget) = Some (Run code input output budget)
+run_with code input output None = None
+
+abbrev pub run_of : List (List ℕ) → Option Command
+run_of (code ∷ input ∷ output ∷ steps ∷ []) = run_with code input output (budget_of steps)
+run_of _ = None
+
 abbrev pub info_of : List (List ℕ) → Option Command
 info_of (input ∷ []) = Some (Info input)
 info_of _ = None
@@ -87,6 +100,7 @@ named name words =
     if bytes_eq name (codes "canon") then canon_of words
     else if bytes_eq name (codes "check") then check_of words
     else if bytes_eq name (codes "convert") then convert_of words
+    else if bytes_eq name (codes "run") then run_of words
     else if bytes_eq name (codes "info") then info_of words
     else None
 
@@ -117,6 +131,7 @@ abbrev pub uses : Command → List Use
 uses (Check formats shape) = reads Formats formats ∷ print_use ∷ []
 uses (Canon input output) = reads Input input ∷ stores Output output ∷ []
 uses (Convert formats input chain output) = reads Formats formats ∷ reads Input input ∷ stores Output output ∷ print_use ∷ []
+uses (Run code input output budget) = reads Code code ∷ reads Input input ∷ stores Output output ∷ print_use ∷ []
 uses (Info input) = reads Input input ∷ print_use ∷ []
 
 -- whether a command prints

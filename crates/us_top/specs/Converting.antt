@@ -9,6 +9,7 @@ use Rattle.us_format.specs.Buffers.{buffers}
 use Rattle.us_decl.specs.Declares.{Declared}
 use Rattle.us_judge.specs.Views.{declaration_of}
 use Rattle.us_container.specs.Bytes.{container_bytes}
+use Rattle.us_container.specs.Contained.{Contained}
 use Rattle.us_outside.specs.Files.{Files, content_of}
 use Rattle.us_top.specs.declared.status.Status.{Status}
 use Rattle.us_top.specs.declared.status.Slot.TheVariants as slots
@@ -18,6 +19,10 @@ use Rattle.us_top.specs.Steps.{size_on, then_step, chain_in, input_at, map_of, w
 -- the buffers of a format on a matrix
 abbrev pub buffers_on : Map → Declared → List (List ℤ)
 buffers_on m d = buffers (shape_in m) (declaration_of d) (entries_in m)
+
+-- what the container of a matrix in a format holds: the format, the matrix, and exactly the format's buffers of it
+abbrev pub kept_in : Map → Declared → Contained
+kept_in m d = record { declared = d; shape = shape_in m; buffers = buffers_on m d; entries = entries_in m }
 
 -- the container of a matrix in a format
 abbrev pub container_of : Map → Declared → List ℕ

@@ -8,7 +8,7 @@ use Rattle.us_decl.specs.Declares.{Declared}
 use Rattle.us_parse.specs.Machine.{library_reader}
 use Rattle.us_parse.specs.Parses.{tokens_of}
 use Rattle.us_judge.specs.Views.{declaration_of}
-use Rattle.us_container.specs.Contained.{Contained, contained_in}
+use Rattle.us_container.specs.Contained.{contained_in}
 use Rattle.us_outside.specs.Files.{Files, content_of}
 use Rattle.us_top.specs.declared.status.Slot.TheVariants as slots
 use Rattle.us_top.specs.declared.status.Status.{Status}
@@ -16,13 +16,9 @@ use Rattle.us_top.specs.declared.status.Status.TheVariants.{Done}
 use Rattle.us_top.specs.Commands.{Command, Check, Convert, ends_in_text}
 use Rattle.us_top.specs.Library.{reading_of}
 use Rattle.us_top.specs.Steps.{Input, map_of, chain_in, input_at}
-use Rattle.us_top.specs.Converting.{buffers_on}
+use Rattle.us_top.specs.Converting.{buffers_on, kept_in}
 
--- what the container of a matrix in a format holds: the format, the matrix, and exactly the format's buffers of it
-abbrev pub kept_in : Map → Declared → Contained
-kept_in m d = record { declared = d; shape = shape_in m; buffers = buffers_on m d; entries = entries_in m }
-
--- the bytes hold that, by the definition of containers; and the meaning of the buffers, by the format's own definition, is the matrix
+-- the bytes hold exactly the format's buffers of the matrix, by the definition of containers; and the meaning of the buffers, by the format's own definition, is the matrix
 pub record IsMeant (m : Map) (d : Declared) (bytes : List ℕ) : Type 0 where
   pub reads_back : contained_in bytes ≡ Ok (kept_in m d)
   pub means : meaning (shape_in m) (declaration_of d) (buffers_on m d) ≡ Some (entries_in m)

@@ -3,6 +3,7 @@ pub mod Library
 pub mod Report
 pub mod Steps
 pub mod Converting
+pub mod Running
 pub mod Info
 pub mod Outcome
 pub mod Answers

@@ -8,6 +8,11 @@ use Rattle.us_parse.specs.declared.parsed.DeclFault.TheVariants as decl
 use Rattle.us_judge.specs.declared.refusal.Refusal.{Refusal}
 use Rattle.us_container.specs.declared.fault.ContainerFault.{ContainerFault}
 use Rattle.us_container.specs.declared.fault.ContainerFault.TheVariants as container
+use Rattle.us_container.specs.Contained.{fault_of}
+use Rattle.us_check.specs.declared.broken.Broken.{Broken}
+use Rattle.us_code_reader.specs.declared.parsed.CodeFault.{CodeFault}
+use Rattle.us_code_reader.specs.declared.parsed.CodeFault.TheVariants as code
+use Rattle.us_bounds.specs.declared.fault.Unbound.{Unbound}
 use Rattle.us_top.specs.declared.status.Status.TheVariants as status
 use Rattle.us_top.specs.declared.status.Slot.{Slot}
 use Rattle.us_top.specs.declared.status.Slot.TheVariants.{Formats, Input, Operand, Code, Output, Listing, Print}
@@ -68,6 +73,21 @@ container_text (container.Cell b x have want) =
 container_text (container.Long b have want) = codes "long " ++ decimal b ++ codes " " ++ decimal have ++ codes " " ++ decimal want
 container_text container.Memory = codes "memory"
 
+-- what is said of a fault of a unit
+abbrev pub code_text : CodeFault → List ℕ
+code_text (code.Token place) = codes "token " ++ decimal place
+code_text (code.Form place) = codes "form " ++ decimal place
+code_text (code.TooBig place) = codes "too big " ++ decimal place
+code_text code.Memory = codes "memory"
+
+-- the item that breaks a rule, and the rule
+abbrev pub unbound_text : Unbound → List ℕ
+unbound_text u = codes "unbound phase " ++ decimal u.phase ++ codes " stmt " ++ decimal u.stmt ++ codes " V" ++ decimal u.rule
+
+-- what is said of buffers that are not well-formed: the same as of a container with these buffers
+abbrev pub broken_text : Broken → List ℕ
+broken_text why = container_text (fault_of why)
+
 -- the line that tells an answer, without its line feed
 abbrev pub status_line : Status → List ℕ
 status_line Done = codes "ok"
@@ -78,6 +98,11 @@ status_line (status.UnknownName k) = codes "unknown name " ++ decimal k
 status_line (status.Refused k r) = codes "refused name " ++ decimal k ++ codes " " ++ refusal_text r
 status_line (status.Container fault) = codes "container " ++ container_text fault
 status_line (status.TooLarge hop) = codes "too large " ++ decimal hop
+status_line (status.Code fault) = codes "code " ++ code_text fault
+status_line (status.Unbound u) = unbound_text u
+status_line (status.Sources want have) = codes "sources " ++ decimal want ++ codes " " ++ decimal have
+status_line (status.NotWellFormed why) = codes "not well formed " ++ broken_text why
+status_line (status.OutOfSteps budget) = codes "out of steps " ++ decimal budget
 status_line (ReadFault slot) = codes "read fault " ++ slot_word slot
 status_line (WriteFault slot) = codes "write fault " ++ slot_word slot
 status_line (TooLong slot) = codes "too long " ++ slot_word slot
@@ -93,6 +118,11 @@ code_of (status.UnknownName k) = 4
 code_of (status.Refused k r) = 5
 code_of (status.Container fault) = 6
 code_of (status.TooLarge hop) = 7
+code_of (status.Code fault) = 9
+code_of (status.Unbound u) = 9
+code_of (status.Sources want have) = 9
+code_of (status.NotWellFormed why) = 10
+code_of (status.OutOfSteps budget) = 11
 code_of (ReadFault slot) = 12
 code_of (WriteFault slot) = 13
 code_of (TooLong slot) = 14

@@ -21,12 +21,17 @@ use Rattle.us_top.specs.Commands.{is_chain}
 use Rattle.us_top.specs.Steps.{Input, OfFile, OfContainer}
 use Rattle.us_top.specs.Converting.{Made}
 use Rattle.us_top.specs.Stands.{Store, Outcome}
+use Rattle.us_code.specs.Plain.{program_tree}
+use Rattle.us_machine.specs.declared.running.Ran.{Ran}
+use Rattle.us_unit.specs.Units.{PlainUnit}
+use Rattle.us_top.specs.Running.{Gives}
+use Rattle.us_top.specs.declared.target.Target.{Target}
 use Rattle.us_top.specs.declared.ending.Store as ending
 use Rattle.us_top.specs.declared.conversion.Made as conversion
 use Rattle.us_top.specs.declared.input.Input as inputs
 use Rattle.us_top.specs.declared.input.Input.TheVariants.{File, Container}
 use Rattle.us_top.specs.declared.command.Command.{Command}
-use Rattle.us_top.specs.declared.command.Command.TheVariants.{Canon, Check, Convert, Info}
+use Rattle.us_top.specs.declared.command.Command.TheVariants.{Canon, Check, Convert, Run, Info}
 
 abbrev pub shape_view : code.Shape → Shape
 shape_view s = record { rows = s.rows; cols = s.cols }
@@ -35,6 +40,7 @@ abbrev pub command_view : Command → commands.Command
 command_view (Canon input output) = commands.Canon input.now output.now
 command_view (Check formats shape) = commands.Check formats.now (shape_view shape)
 command_view (Convert formats input chain output) = commands.Convert formats.now input.now chain.now output.now
+command_view (Run code input output budget) = commands.Run code.now input.now output.now budget
 command_view (Info input) = commands.Info input.now
 
 -- rows and columns of a command are below 2^31, and a chain is one
@@ -42,6 +48,7 @@ abbrev pub IsProper : Command → Type 0
 IsProper (Canon input output) = Unit {0}
 IsProper (Check formats shape) = (shape.rows < 2 ^ 31) × (shape.cols < 2 ^ 31)
 IsProper (Convert formats input chain output) = is_chain chain.now ≡ true
+IsProper (Run code input output budget) = Unit {0}
 IsProper (Info input) = Unit {0}
 
 -- words were read as the command that they say
@@ -93,6 +100,27 @@ made_view m = record { bytes = m.bytes.items; lines = m.lines.items }
 abbrev pub made_of : Result conversion.Made Status → Result Made Status
 made_of (Ok made) = Ok (made_view made)
 made_of (Err status) = Err status
+
+-- a target and its program
+abbrev pub target_view : Target → PlainUnit
+target_view t = record { target = t.format; program = program_tree t.code }
+
+abbrev pub target_of : Result Target Status → Result PlainUnit Status
+target_of (Ok t) = Ok (target_view t)
+target_of (Err status) = Err status
+
+-- what the sources are
+abbrev pub source_of : Result Held Status → Result Contained Status
+source_of (Ok h) = Ok (contained_of h)
+source_of (Err status) = Err status
+
+-- what a run gave
+abbrev pub ran_view : Ran → Gives
+ran_view r = record { lists = r.buffers; steps = r.steps }
+
+abbrev pub ran_of : Result Ran Status → Result Gives Status
+ran_of (Ok r) = Ok (ran_view r)
+ran_of (Err status) = Err status
 
 -- a file that is to be stored, and all that is stored and printed
 abbrev pub store_view : ending.Store → Store

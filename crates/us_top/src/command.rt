@@ -1,6 +1,6 @@
 //! The words of the command line.
 ghost use Rattle.std.specs.Prelude.{◌≡◌, ◌<◌, ◌^◌, Some, None, IfSome, MatchOption};
-ghost use Rattle.us_top.specs.Commands.{texts, command_of, canon_of, check_of, convert_of, info_of, side_of};
+ghost use Rattle.us_top.specs.Commands.{texts, command_of, canon_of, check_of, convert_of, run_of, info_of, side_of, budget_of};
 ghost use Rattle.us_top.specs.Views.{Says};
 
 use crate::chain::is_chain;
@@ -27,6 +27,13 @@ pub enum Command<'a> {
         chain: &'a str,
         output: &'a str,
     },
+    /// Run a unit of loop code on the buffers of a container, in at most so many steps.
+    Run {
+        code: &'a str,
+        input: &'a str,
+        output: &'a str,
+        budget: u64,
+    },
     /// Say what a file is.
     Info {
         input: &'a str,
@@ -42,6 +49,7 @@ pub fn command_of(words: &[String]) -> Option<Command<'_>>
         "canon" => canon_of(words),
         "check" => check_of(words),
         "convert" => convert_of(words),
+        "run" => run_of(words),
         "info" => info_of(words),
         _ => None,
     }
@@ -91,6 +99,21 @@ fn convert_of(words: &[String]) -> Option<Command<'_>>
     })
 }
 
+fn run_of(words: &[String]) -> Option<Command<'_>>
+    ensures { Says result (run_of (texts words.now)) }
+{
+    let [code, input, output, steps] = words else {
+        return None;
+    };
+    let budget = budget(steps.as_str())?;
+    Some(Command::Run {
+        code: code.as_str(),
+        input: input.as_str(),
+        output: output.as_str(),
+        budget,
+    })
+}
+
 fn info_of(words: &[String]) -> Option<Command<'_>>
     ensures { Says result (info_of (texts words.now)) }
 {
@@ -114,4 +137,20 @@ fn side(word: &str) -> Option<u32>
         return None;
     }
     Some(number as u32)
+}
+
+// The most steps: a number of at most 20 digits, up to 2^64 - 1.
+fn budget(word: &str) -> Option<u64>
+    ensures { MatchOption result (budget_of word.now ≡ None) (λ n. budget_of word.now ≡ Some n) }
+{
+    if word.len() > 20 {
+        return None;
+    }
+    let Some(_) = number_of(word.as_bytes()) else {
+        return None;
+    };
+    match word.parse::<u64>() {
+        Ok(number) => Some(number),
+        Err(_) => None,
+    }
 }

@@ -123,8 +123,8 @@ pub fn read_library<O: Outside>(
     library_in(alloc, &bytes)
 }
 
-// The bytes of the file of a slot.
-fn load_file<O: Outside>(
+/// The bytes of the file of a slot, or the answer where it isn't read.
+pub fn load_file<O: Outside>(
     alloc: Global,
     outside: &mut O,
     slot: Slot,

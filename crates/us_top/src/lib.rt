@@ -16,8 +16,12 @@ mod line;
 mod matrix_file;
 mod read_back;
 mod report;
+mod result;
+mod run_code;
 mod running;
+mod source;
 mod status;
+mod target;
 
 pub use running::run;
 pub use status::{Slot, Status};

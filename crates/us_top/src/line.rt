@@ -2,11 +2,14 @@
 ghost use Rattle.std.specs.Prelude.{◌≡◌, ◌≤◌, ◌+◌, ◌++◌, length};
 ghost use Rattle.std.specs.Fmt.{decimal, signed_decimal};
 ghost use Rattle.arrayvec.specs.ArrayString.{array_string_len};
-ghost use Rattle.us_top.specs.Lines.{slot_word, fault_text, formats_text, refusal_text, container_text};
+ghost use Rattle.us_top.specs.Lines.{slot_word, fault_text, formats_text, refusal_text, container_text, code_text, unbound_text, broken_text};
 
 use crate::Slot;
 use arrayvec::ArrayString;
 use itoa::Buffer;
+use us_bounds::Unbound;
+use us_check::Broken;
+use us_code_reader::CodeFault;
 use us_container::ContainerFault;
 use us_judge::Refusal;
 use us_mm::MmFault;
@@ -153,4 +156,35 @@ pub fn push_container_fault(line: &mut ArrayString<160>, fault: ContainerFault)
         ContainerFault::Long { buffer, have, want } => push_long(line, buffer, have, want),
         ContainerFault::Memory => line.push_str("memory"),
     }
+}
+
+/// What is said of buffers that are not well-formed.
+pub fn push_broken(line: &mut ArrayString<160>, why: Broken)
+    requires { array_string_len line.old ≤ 30 }
+    ensures { line.new.bytes ≡ line.old.bytes ++ broken_text why }
+{
+    push_container_fault(line, ContainerFault::from(why));
+}
+
+/// What is said of a fault of a unit.
+pub fn push_code_fault(line: &mut ArrayString<160>, fault: CodeFault)
+    requires { array_string_len line.old ≤ 30 }
+    ensures { line.new.bytes ≡ line.old.bytes ++ code_text fault }
+{
+    match fault {
+        CodeFault::Token { place } => push_numbered(line, "token ", place),
+        CodeFault::Form { place } => push_numbered(line, "form ", place),
+        CodeFault::TooBig { place } => push_numbered(line, "too big ", place),
+        CodeFault::Memory => line.push_str("memory"),
+    }
+}
+
+/// The item of a code that breaks a rule, and the rule.
+pub fn push_unbound(line: &mut ArrayString<160>, unbound: Unbound)
+    requires { array_string_len line.old ≤ 30 }
+    ensures { line.new.bytes ≡ line.old.bytes ++ unbound_text unbound }
+{
+    push_numbered(line, "unbound phase ", unbound.phase);
+    push_numbered(line, " stmt ", u64::from(unbound.stmt));
+    push_numbered(line, " V", u64::from(unbound.rule));
 }

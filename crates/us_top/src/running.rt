@@ -10,6 +10,7 @@ use crate::check::check;
 use crate::command::{Command, command_of};
 use crate::convert::convert;
 use crate::info::info;
+use crate::run_code::run_code;
 use std::alloc::Global;
 use us_outside::Outside;
 use us_parse::library_answers_mean;
@@ -39,6 +40,14 @@ pub fn run<O: Outside>(alloc: Global, words: &[String], outside: &mut O) -> Stat
                 output,
             },
         ) => convert(alloc, outside, formats, input, chain, output),
+        Some(
+            Command::Run {
+                code,
+                input,
+                output,
+                budget,
+            },
+        ) => run_code(alloc, outside, code, input, output, budget),
         Some(Command::Info { input }) => info(alloc, outside, input),
     }
 }

@@ -4,10 +4,14 @@ ghost use Rattle.us_top.specs.declared.status.Status.TheVariants.{Memory};
 ghost use Rattle.us_top.specs.Lines.{status_line, code_of};
 
 use crate::line::{
-    push_container_fault, push_fault, push_formats_fault, push_numbered, push_refusal, push_slot,
+    push_broken, push_code_fault, push_container_fault, push_fault, push_formats_fault,
+    push_numbered, push_refusal, push_slot, push_unbound,
 };
 use arrayvec::ArrayString;
 use std::alloc::{AllocError, AllocFailed};
+use us_bounds::Unbound;
+use us_check::Broken;
+use us_code_reader::CodeFault;
 use us_container::ContainerFault;
 use us_judge::Refusal;
 use us_mm::MmFault;
@@ -50,8 +54,18 @@ pub enum Status {
     /// The file isn't a container that can be read.
     Container(ContainerFault),
     /// The size of the k-th format of the chain, counted from 1, is above the limit of 67108864; 0 is the built-in format
-    /// of the matrix file.
+    /// of the matrix file. Of loop code, with 1: a length or a dim is above 67108865.
     TooLarge { hop: u32 },
+    /// The file isn't one unit.
+    Code(CodeFault),
+    /// An item of the code breaks a rule.
+    Unbound(Unbound),
+    /// The code has `want` sources, and the input `have` buffers.
+    Sources { want: u64, have: u64 },
+    /// What the code gives is not well-formed in the target.
+    NotWellFormed(Broken),
+    /// The code takes more steps than it may.
+    OutOfSteps { budget: u64 },
     /// A fetch of the file failed.
     ReadFault { slot: Slot },
     /// A store of the file, or the print, failed.
@@ -76,6 +90,9 @@ impl Status {
             Status::Refused { .. } => 5,
             Status::Container(_) => 6,
             Status::TooLarge { .. } => 7,
+            Status::Code(_) | Status::Unbound(_) | Status::Sources { .. } => 9,
+            Status::NotWellFormed(_) => 10,
+            Status::OutOfSteps { .. } => 11,
             Status::ReadFault { .. } => 12,
             Status::WriteFault { .. } => 13,
             Status::TooLong { .. } => 14,
@@ -112,6 +129,20 @@ impl Status {
                 push_container_fault(&mut line, fault);
             }
             Status::TooLarge { hop } => push_numbered(&mut line, "too large ", u64::from(hop)),
+            Status::Code(fault) => {
+                line.push_str("code ");
+                push_code_fault(&mut line, fault);
+            }
+            Status::Unbound(unbound) => push_unbound(&mut line, unbound),
+            Status::Sources { want, have } => {
+                push_numbered(&mut line, "sources ", want);
+                push_numbered(&mut line, " ", have);
+            }
+            Status::NotWellFormed(why) => {
+                line.push_str("not well formed ");
+                push_broken(&mut line, why);
+            }
+            Status::OutOfSteps { budget } => push_numbered(&mut line, "out of steps ", budget),
             Status::ReadFault { slot } => {
                 line.push_str("read fault ");
                 push_slot(&mut line, slot);

@@ -1,0 +1,18 @@
+use Rattle.std.proofs.Common.{sym, subst}
+use Rattle.std.proofs.lemmas.Option.{IfSome_then}
+use Rattle.std.proofs.lemmas.Result.{err_from_is_err_and}
+use Rattle.us_top.specs.Answers.{IsStep}
+use Rattle.us_top.specs.Running.{unit_of}
+use Rattle.us_top.specs.Views.{target_of}
+use Rattle.us_top.proofs.InputLemmas.{read_behind, unread_behind}
+use Rattle.us_top.proofs.target.read_target.Goals as goal
+
+pub returns-in_err-bytes-clause-plain : goal.returns-in_err-bytes-clause-plain
+returns-in_err-bytes-clause-plain g c =
+    let p = err_from_is_err_and c.from_residual.result c.from_residual.ensures.1 in
+    rw (p.1, p.2) (IfSome_then (g.O.Outside.files c.args.outside.now) c.in_err-bytes.ensures.plain (λ fs h. unread_behind c.args.slot _ _ _ h))
+
+pub returns-clause-plain : goal.returns-clause-plain
+returns-clause-plain g c =
+    IfSome_then (g.O.Outside.files c.args.outside.now) c.in_ok-bytes.ensures.plain
+    (λ fs h. subst (λ x. IsStep x (target_of c.target_in.result)) (sym (read_behind c.args.slot _ c.in_ok-bytes.bytes.items unit_of h)) (rw c.deref.ensures.value at c.target_in.ensures.plain))

@@ -1,0 +1,62 @@
+//! The sources of `run`: the buffers of a container, or of a matrix file in the built-in format.
+ghost use Rattle.std.specs.Prelude.{◌≡◌, ◌∷◌, [], IfErr, IfSome};
+ghost use Rattle.us_outside.specs.Causes.{NeverFell};
+ghost use Rattle.us_outside.specs.Files.{content_of};
+ghost use Rattle.us_top.specs.Commands.{reads};
+ghost use Rattle.us_top.specs.Steps.{OfFile, input_at, then_step};
+ghost use Rattle.us_top.specs.Running.{held_step};
+ghost use Rattle.us_top.specs.Answers.{IsStep, IsRefusal, IsInnerRefusal};
+ghost use Rattle.us_top.specs.Views.{input_view, source_of};
+
+use crate::input::{Input, read_input};
+use crate::{Slot, Status};
+use std::alloc::Global;
+use us_check::Held;
+use us_judge::entry_format;
+use us_levels::BuildFault;
+use us_matrix::Matrix;
+use us_outside::Outside;
+
+/// The matrix in the file of a slot, held in the format of its container, or in the built-in one.
+pub fn read_source<O: Outside>(
+    alloc: Global,
+    outside: &mut O,
+    slot: Slot,
+    name: &str,
+) -> Result<Held, Status>
+    ensures plain { IfSome (O.files outside.old) (λ fs. IsStep (then_step (input_at slot (content_of fs name.now)) held_step) (source_of result)) }
+    ensures refusal { IfErr result (IsRefusal (reads slot name.now ∷ []) (O.faults outside.old) (O.faults outside.new)) }
+    ensures files { O.files outside.new ≡ O.files outside.old }
+    ensures printed { O.printed outside.new ≡ O.printed outside.old }
+    ensures later { NeverFell (O.faults outside.old) (O.faults outside.new) }
+{
+    let input = read_input(alloc, outside, slot, name)?;
+    hold(alloc, input)
+}
+
+// An input as it is held.
+fn hold(alloc: Global, input: Input) -> Result<Held, Status>
+    ensures plain { IsStep (held_step (input_view input)) (source_of result) }
+    ensures refusal { IfErr result IsInnerRefusal }
+{
+    match input {
+        Input::File(matrix) => hold_entries(alloc, matrix),
+        Input::Container(held) => Ok(held),
+    }
+}
+
+// A matrix in the built-in format.
+fn hold_entries(alloc: Global, matrix: Matrix) -> Result<Held, Status>
+    ensures plain { IsStep (held_step (OfFile matrix)) (source_of result) }
+    ensures refusal { IfErr result IsInnerRefusal }
+{
+    let format = entry_format(alloc)?;
+    let held = match Held::of(alloc, format, matrix) {
+        Ok(held) => held,
+        Err(BuildFault::TooLarge) => return Err(Status::TooLarge { hop: 0 }),
+        Err(BuildFault::Memory) => return Err(Status::Memory),
+    };
+    // so the buffers are those of the matrix
+    let _ = held.buffers();
+    Ok(held)
+}
