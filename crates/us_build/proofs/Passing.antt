@@ -221,27 +221,27 @@ restarted-all first xs ys i h e =
 
 -- ---- the second pass
 
--- what stands before level k, where there are n positions: the lists so far and those of the levels that are left are the whole
-pub record IsWritten (levels : List Level) (start items : List Item) (k n : ℕ) (lists : List (List ℤ)) : Type 0 where
+-- what stands before level k, where there are n positions: the lists so far and those of the levels that are left are the front and the whole
+pub record IsWritten (front : List (List ℤ)) (levels : List Level) (start items : List Item) (k n : ℕ) (lists : List (List ℤ)) : Type 0 where
   pub ready : AreReady (plain_levels (drop k levels)) n (rows_at ((6 - length levels) + k) items)
-  pub whole : lists ++ map written (level_buffers (plain_levels (drop k levels)) n (rows_at ((6 - length levels) + k) items)) ≡ map written (level_buffers (plain_levels levels) 1 (rows_at (6 - length levels) start))
+  pub whole : lists ++ map written (level_buffers (plain_levels (drop k levels)) n (rows_at ((6 - length levels) + k) items)) ≡ front ++ map written (level_buffers (plain_levels levels) 1 (rows_at (6 - length levels) start))
   pub long : length items ≡ length start
   pub few : n ≤ 67108864
   pub small : size_from (plain_levels (drop k levels)) n (rows_at ((6 - length levels) + k) items) ≤ 67108864
 
-module _ (levels : List Level) (start : List Item) where
-  pub written-none : AreReady (plain_levels levels) 1 (rows_at (6 - length levels) start) → size_from (plain_levels levels) 1 (rows_at (6 - length levels) start) ≤ 67108864 → IsWritten levels start start 0 1 []
+module _ (front : List (List ℤ)) (levels : List Level) (start : List Item) where
+  pub written-none : AreReady (plain_levels levels) 1 (rows_at (6 - length levels) start) → size_from (plain_levels levels) 1 (rows_at (6 - length levels) start) ≤ 67108864 → IsWritten front levels start start 0 1 front
   written-none r s =
       let i : 6 - length levels ≡ (6 - length levels) + 0 = omega arith in
       record {
         ready = subst (λ (i : ℕ). AreReady (plain_levels levels) 1 (rows_at i start)) i r;
-        whole = ap (λ (i : ℕ). map written (level_buffers (plain_levels levels) 1 (rows_at i start))) (sym i);
+        whole = ap (λ (i : ℕ). front ++ map written (level_buffers (plain_levels levels) 1 (rows_at i start))) (sym i);
         long = refl;
         few = omega arith;
         small = subst (λ (i : ℕ). size_from (plain_levels levels) 1 (rows_at i start) ≤ 67108864) i s;
       }
 
-  module _ (k n : ℕ) (lists : List (List ℤ)) (d : Level) (xs : List Item) (h : k < length levels) (p : IsWritten levels start xs k n lists) where
+  module _ (k n : ℕ) (lists : List (List ℤ)) (d : Level) (xs : List Item) (h : k < length levels) (p : IsWritten front levels start xs k n lists) where
     pub written-ready : IsReady (get_or levels k d).kind (get_or levels k d).size n (rows_at ((6 - length levels) + k) xs)
     written-ready = (ready-split levels k n d xs h p.ready).0
 
@@ -261,7 +261,7 @@ module _ (levels : List Level) (start : List Item) where
       written-count = c ∙ count-next levels k n d xs h ys e
 
       pub written-next : (new : List (List ℤ)) → m ≤ 67108864 → new ≡ lists ++ map written (buffers_at (get_or levels k d).kind (get_or levels k d).size n (rows_above ((6 - length levels) + k) ys))
-          → IsWritten levels start ys (k + 1) m new
+          → IsWritten front levels start ys (k + 1) m new
       written-next new few q = record {
         ready = subst (λ (x : ℕ). AreReady (plain_levels (drop (k + 1) levels)) x rows) (sym c) (ready-next levels k n d xs h ys e p.ready);
         whole =
@@ -279,7 +279,7 @@ module _ (levels : List Level) (start : List Item) where
           more : List (List ℤ)
           more = map written (level_buffers (plain_levels (drop (k + 1) levels)) (count_here levels k n d xs h) rows)
 
-  module _ (k n : ℕ) (lists : List (List ℤ)) (xs : List Item) (full : k ≡ length levels) (six : length levels ≤ 6) (p : IsWritten levels start xs k n lists) where
+  module _ (k n : ℕ) (lists : List (List ℤ)) (xs : List Item) (full : k ≡ length levels) (six : length levels ≤ 6) (p : IsWritten front levels start xs k n lists) where
     pub index-end : (6 - length levels) + k ≡ 6
     index-end = omega arith
 
@@ -301,7 +301,7 @@ module _ (levels : List Level) (start : List Item) where
         sym (ap (λ (r : Row). r.value) x) ∙ end-ready.alike i j (row_at 6 d) l (omega (arith, b, length-map xs (row_at 6))) at ∙ ap (λ (r : Row). r.value) y
 
     pub written-end : (cells : List ℤ) → cells ≡ map (cell_of (λ r. r.at) (λ r. r.value) (rows_at 6 xs)) (range_with_len 0 n)
-        → lists ++ cells ∷ [] ≡ map written (level_buffers (plain_levels levels) 1 (rows_at (6 - length levels) start))
+        → lists ++ cells ∷ [] ≡ front ++ map written (level_buffers (plain_levels levels) 1 (rows_at (6 - length levels) start))
     written-end cells e =
         ap (λ (c : List ℤ). lists ++ c ∷ []) e
         ∙ ap (λ (i : ℕ). lists ++ map written (level_buffers [] n (rows_at i xs))) (sym index-end)

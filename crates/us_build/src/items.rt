@@ -16,6 +16,9 @@ use us_expr::{Expr, Point, eval};
 use us_matrix::Triple;
 use us_variables::Variables;
 
+/// How many places an item has for coordinates: a part has at most so many levels.
+pub(crate) const PLACES: usize = 6;
+
 /// An entry on its way down: its position now and one level above, its coordinates at all levels, and its value.
 ///
 /// The coordinates stand right-aligned, so that the last level's is always the last; places in front are 0.
@@ -23,12 +26,12 @@ use us_variables::Variables;
 pub struct Item {
     pub(crate) above: u64,
     pub(crate) at: u64,
-    pub(crate) coordinates: [u64; 6],
+    pub(crate) coordinates: [u64; PLACES],
     pub(crate) value: i64,
 }
 
 /// The coordinates of a point at the levels of these expressions.
-fn coordinates_of(exprs: &[Expr], levels: &[Level], point: &Point) -> [u64; 6]
+fn coordinates_of(exprs: &[Expr], levels: &[Level], point: &Point) -> [u64; PLACES]
     requires count { length exprs.now ≤ 6 }
     requires levels { length levels.now ≡ length exprs.now }
     requires sizes { All (λ l. l.size < 2 ^ 38) levels.now }
@@ -37,8 +40,8 @@ fn coordinates_of(exprs: &[Expr], levels: &[Level], point: &Point) -> [u64; 6]
     requires lies { LiesInLevels point.now.i point.now.j point.now.vars.items (map tree exprs.now) levels.now }
     ensures { result ≡ six point.now.i point.now.j point.now.vars.items (map tree exprs.now) levels.now }
 {
-    let mut coordinates = [0u64; 6];
-    let first = 6 - exprs.len();
+    let mut coordinates = [0u64; PLACES];
+    let first = PLACES - exprs.len();
     for (k, e) in exprs.iter().enumerate() {
         coordinates[first + k] = distance(levels[k].low, eval(e, point));
     }

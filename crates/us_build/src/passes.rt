@@ -1,5 +1,5 @@
 //! The two passes over the levels: the first adds up the size and stops above the limit, the second writes the lists.
-ghost use Rattle.std.specs.Prelude.{◌≡◌, ◌<◌, ◌≤◌, ◌+◌, ◌-◌, ◌*◌, ◌^◌, ◌++◌, min, map, length, true, false, All, IfOk};
+ghost use Rattle.std.specs.Prelude.{◌≡◌, ◌<◌, ◌≤◌, ◌+◌, ◌-◌, ◌*◌, ◌^◌, ◌++◌, min, map, length, true, false, All, OnOk};
 ghost use Rattle.us_format.specs.declared.Kind.TheVariants.{Full};
 ghost use Rattle.us_format.specs.Buffers.{level_buffers};
 ghost use Rattle.us_format.specs.Packs.{written};
@@ -9,7 +9,7 @@ ghost use Rattle.us_build.specs.Ready.{AreReady, size_from};
 ghost use Rattle.us_build.specs.Sizes.{plain_levels, level_size};
 
 use crate::cells::{push_level, values};
-use crate::items::Item;
+use crate::items::{Item, PLACES};
 use crate::levels::Level;
 use crate::steps::go_down;
 use std::alloc::{AllocError, Global};
@@ -48,7 +48,7 @@ pub(crate) fn is_too_long(level: &Level, above: u64) -> bool
 
 /// The size of the lists of the levels and of the values and of all numbers of positions, or one more than the limit
 /// where it is larger. The items go down the levels, as far as the size is not above the limit.
-pub(crate) fn measure(items: &mut [Item], levels: &[Level]) -> u64
+fn add_up(items: &mut [Item], levels: &[Level]) -> u64
     requires levels { length levels.now ≤ 6 }
     requires sizes { All (λ l. l.size < 2 ^ 38) levels.now }
     requires few { length items.old ≤ limit }
@@ -56,7 +56,7 @@ pub(crate) fn measure(items: &mut [Item], levels: &[Level]) -> u64
     ensures size { result ≡ min (size_from (plain_levels levels.now) 1 (rows_at (6 - length levels.now) items.old)) (limit + 1) }
     ensures kept { rows_first (6 - length levels.now) items.new ≡ rows_first (6 - length levels.now) items.old }
 {
-    let first = 6 - levels.len();
+    let first = PLACES - levels.len();
     let mut total = 0;
     let mut positions = 1;
     for (k, level) in levels.iter().enumerate() {
@@ -74,7 +74,7 @@ pub(crate) fn measure(items: &mut [Item], levels: &[Level]) -> u64
 }
 
 /// Puts the items back above the first level.
-pub(crate) fn restart(items: &mut [Item], first: usize)
+fn restart(items: &mut [Item], first: usize)
     ensures { rows_at first items.new ≡ rows_first first items.old }
 {
     for item in items.iter_mut() {
@@ -82,35 +82,43 @@ pub(crate) fn restart(items: &mut [Item], first: usize)
     }
 }
 
-/// The lists of the levels and of the values, whose size is at most the limit. The items go down the levels.
-pub(crate) fn write(
+/// The size of the lists of the levels and of the values and of all numbers of positions, or one more than the limit
+/// where it is larger. The items are above the first level again.
+pub fn measure(items: &mut [Item], levels: &[Level]) -> u64
+    requires levels { length levels.now ≤ 6 }
+    requires sizes { All (λ l. l.size < 2 ^ 38) levels.now }
+    requires few { length items.old ≤ limit }
+    requires ready { AreReady (plain_levels levels.now) 1 (rows_at (6 - length levels.now) items.old) }
+    ensures size { result ≡ min (size_from (plain_levels levels.now) 1 (rows_at (6 - length levels.now) items.old)) (limit + 1) }
+    ensures back { rows_at (6 - length levels.now) items.new ≡ rows_first (6 - length levels.now) items.old }
+{
+    let size = add_up(items, levels);
+    restart(items, PLACES - levels.len());
+    size
+}
+
+/// Adds the lists of the levels and of the values, whose size is at most the limit. The items go down the levels. Fails
+/// only where memory is wanting.
+pub fn write(
     alloc: Global,
+    lists: &mut Buffers,
     items: &mut [Item],
     levels: &[Level],
-) -> Result<Buffers, AllocError>
+) -> Result<(), AllocError>
     requires levels { length levels.now ≤ 6 }
     requires sizes { All (λ l. l.size < 2 ^ 38) levels.now }
     requires few { length items.old ≤ limit }
     requires ready { AreReady (plain_levels levels.now) 1 (rows_at (6 - length levels.now) items.old) }
     requires small { size_from (plain_levels levels.now) 1 (rows_at (6 - length levels.now) items.old) ≤ limit }
-    ensures { IfOk result (λ b. b ≡ map written (level_buffers (plain_levels levels.now) 1 (rows_at (6 - length levels.now) items.old))) }
+    ensures { OnOk result (lists.new ≡ lists.old ++ map written (level_buffers (plain_levels levels.now) 1 (rows_at (6 - length levels.now) items.old))) }
 {
-    let first = 6 - levels.len();
-    let mut buffers = Buffers::new(alloc);
+    let first = PLACES - levels.len();
     let mut positions = 1;
     for (k, level) in levels.iter().enumerate() {
         let below = go_down(items, first + k, level, positions);
-        push_level(
-            alloc,
-            &mut buffers,
-            items,
-            first + k,
-            level,
-            positions,
-            below,
-        )?;
+        push_level(alloc, lists, items, first + k, level, positions, below)?;
         positions = below;
     }
-    buffers.push(values(alloc, items, positions)?)?;
-    Ok(buffers)
+    lists.push(values(alloc, items, positions)?)?;
+    Ok(())
 }

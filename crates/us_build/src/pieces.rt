@@ -6,7 +6,7 @@ ghost use Rattle.us_build.specs.Pieces.{IsBuildable, IsPartOf, pieces_on, size_o
 ghost use Rattle.us_build.specs.declared.fault.BuildFault.TheVariants.{TooLarge};
 
 use crate::fault::BuildFault;
-use crate::passes::{LIMIT, measure, restart, write};
+use crate::passes::{LIMIT, measure, write};
 use crate::rows::Rows;
 use std::alloc::{AllocError, Global};
 use us_expr::{Expr, Query};
@@ -37,8 +37,9 @@ pub fn build_pieces(
     if measure(&mut items, &levels) > LIMIT {
         return Err(BuildFault::TooLarge);
     }
-    restart(&mut items, 6 - levels.len());
-    Ok(write(alloc, &mut items, &levels)?)
+    let mut lists = Buffers::new(alloc);
+    write(alloc, &mut lists, &mut items, &levels)?;
+    Ok(lists)
 }
 
 /// The size of these buffers: their lengths and the numbers of positions behind each level, added up, or one more than

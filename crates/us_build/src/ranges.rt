@@ -25,7 +25,7 @@ fn index_range(count: u64) -> Range
 }
 
 /// How many rows there are, or columns, by the index that is named.
-fn indices(index: &Expr, shape: Shape) -> u64
+pub fn indices(index: &Expr, shape: Shape) -> u64
     ensures is { result ≡ indices (axis_of (tree index.now)) (plain_shape shape) }
     ensures small { result < 2 ^ 32 }
 {

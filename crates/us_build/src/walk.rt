@@ -8,7 +8,7 @@ ghost use Rattle.us_format.specs.Buffers.{val_buffer};
 ghost use Rattle.us_build.specs.Ways.{IsStartOn, Way, first_buffers, is_first_long, way_below};
 
 use crate::cells::{push_level, values};
-use crate::items::Item;
+use crate::items::{Item, PLACES};
 use crate::levels::Level;
 use crate::passes::is_too_long;
 use crate::rows::Rows;
@@ -93,7 +93,7 @@ impl Walk {
         ensures kept { BeginsWith lists.new lists.old }
         ensures below { self.new ≡ way_below self.old.levels self.old.positions self.old.rows }
     {
-        let index = 6 - self.levels.len() + self.done;
+        let index = PLACES - self.levels.len() + self.done;
         let level = self.levels[self.done];
         let above = self.positions;
         let below = go_down(&mut self.items, index, &level, above);

@@ -2,7 +2,7 @@
 use Rattle.std.specs.Prelude.{slice_get, Ok, Err}
 use Rattle.std.specs.Option.{option_map}
 use Rattle.std.specs.List.{range_with_len}
-use Rattle.std.proofs.Common.{get_or, ◌≡◌, ℕ, suc, ◌+◌, ◌<◌, ◌≤◌, ◌⊎◌, drop, List, [], ◌∷◌, map, length, Bool, true, false, cond, ◌&&◌, ltb, pos, negsuc, ℤ, sym, refl, ap, ◌∙◌, subst, inl, inr, arith, Option, Some, None, All, ltb-true}
+use Rattle.std.proofs.Common.{get_or, ◌≡◌, ℕ, suc, ◌+◌, ◌<◌, ◌⊎◌, drop, List, [], ◌∷◌, map, length, Bool, true, false, cond, ◌&&◌, ltb, pos, negsuc, ℤ, sym, refl, ap, ◌∙◌, subst, inl, inr, arith, Option, Some, None, All, ltb-true}
 use Rattle.std.proofs.lemmas.Bool.{and_parts}
 use Rattle.std.proofs.lemmas.Option.{slice_get-map, slice_get_read}
 use Rattle.std.proofs.Math.ListN.{length-map}
@@ -18,7 +18,6 @@ use Rattle.us_format.specs.Program.{plain_entry}
 use Rattle.us_format.proofs.Order.{Mem, Mem-map, Mem-of_map}
 use Rattle.us_format.proofs.Members.{contains-Mem, Mem-contains, Mem-all, Mem-either, item-Mem}
 use Rattle.us_format.proofs.Lawful.{row-major}
-use Rattle.us_judge.specs.Views.{declaration_of}
 use Rattle.us_climb.specs.declared.found.Found.{Found}
 use Rattle.us_climb.specs.declared.found.ReadEntries.{ReadEntries}
 use Rattle.us_climb.specs.declared.found.Position as code

@@ -20,12 +20,15 @@ use Rattle.us_levels.specs.Differences.{difference_of}
 use Rattle.us_check.specs.declared.broken.Broken.{Broken}
 use Rattle.us_check.specs.declared.broken.Broken.TheVariants.{Lengths, TooLarge, Climb, Cell, Long, Memory}
 use Rattle.us_check.specs.declared.held.Held.{Held}
+use Rattle.us_check.specs.Kept.{Kept}
+use Rattle.us_matrix.specs.Map.{Map}
 use Rattle.us_decl.specs.Declares.{Declared}
-use Rattle.us_format.specs.Program.{entries_in}
+use Rattle.us_format.specs.Program.{shape_in, entries_in}
 use Rattle.us_check.specs.Checks.{unless_different, compared, fitting, checked, TellsFault, TellsChecked, IsWellFormedWithin}
 use Rattle.us_check.specs.Laws.{AreBuffersOf, ChecksWellFormed, ChecksOwn, ChecksAccepted}
-use Rattle.us_check.proofs.Accepted.{accepted-small}
+use Rattle.us_levels.proofs.SmallExtents.{small-within}
 use Rattle.us_check.proofs.Same.{none-same, same-all}
+use Rattle.us_check.proofs.Told.{fault-same}
 
 pub fits-none : (s : Shape) (d : Declaration) (bufs : List (List ℤ)) → fits s d bufs ≡ true → misfit s d bufs ≡ None
 fits-none s d bufs h = go (misfit s d bufs) h
@@ -115,15 +118,15 @@ pub checks-well-formed : ChecksWellFormed
 checks-well-formed s d bufs m law = (checked-is s d bufs m law, is-checked s d bufs m law)
 
 pub checks-own : ChecksOwn
-checks-own s d m law im small le =
+checks-own s d m law im le =
     is-checked s d (buffers s d m) m law (record {
-      means = (buffers-mean-matrix s d m law im).meant small;
+      means = (buffers-mean-matrix s d m law im).meant (small-within s d m law im le);
       built = refl;
       small = subst (λ (n : ℕ). n ≤ limit) (sym (size-is-of-buffers s d m law)) le;
     })
 
 pub checks-accepted : ChecksAccepted
-checks-accepted s x m v e im le = checks-own s (declaration_of x) m (accepted-declaration x v e) im (accepted-small s x m v e) le
+checks-accepted s x m v e im le = checks-own s (declaration_of x) m (accepted-declaration x v e) im le
 
 -- ---- buffers that fit
 
@@ -143,6 +146,34 @@ checked-misfit s d bufs k h = ap (fitting s d bufs) h
 pub checked-fitting : (s : Shape) (d : Declaration) (bufs : List (List ℤ)) → fits s d bufs ≡ true → size_in s d bufs ≤ limit → checked s d bufs ≡ compared s d bufs (collected s d bufs)
 checked-fitting s d bufs h l =
     ap (fitting s d bufs) (fits-none s d bufs h) ∙ ap (λ (t : Bool). cond t (compared s d bufs (collected s d bufs)) (Err TooLarge)) (test-below (size_in s d bufs) limit l)
+
+-- a fault of the positions, or of the comparison, is that of the check
+pub fitting-told : (s : Shape) (d : Declaration) (bufs : List (List ℤ)) (fault : Broken) → fits s d bufs ≡ true → size_in s d bufs ≤ limit
+    → TellsFault (compared s d bufs (collected s d bufs)) fault → TellsFault (checked s d bufs) fault
+fitting-told s d bufs fault h l t = fault-same (compared s d bufs (collected s d bufs)) (checked s d bufs) fault (checked-fitting s d bufs h l) t
+
+-- from the comparison on
+pub checked-compared : (s t : Shape) (d : Declaration) (bufs : List (List ℤ)) (m : List Entry) (o : Option Difference) → t ≡ s → fits s d bufs ≡ true → size_in s d bufs ≤ limit
+    → collected s d bufs ≡ Ok m → difference_of t d m bufs ≡ o → checked s d bufs ≡ unless_different m o
+checked-compared s t d bufs m o e h l c q =
+    checked-fitting s d bufs h l ∙ ap (compared s d bufs) c ∙ ap (unless_different m) (ap (λ (u : Shape). difference_of u d m bufs) (sym e) ∙ q)
+
+-- ---- the matrix whose buffers these are
+
+module _ (s t : Shape) (d : Declaration) (bufs : List (List ℤ)) (m : List Entry) (law : IsLawfulDeclaration d) (same : t ≡ s) (h : checked s d bufs ≡ Ok m) where
+  found-built : bufs ≡ buffers s d m
+  found-built = (checked-is s d bufs m law h).built
+
+  pub checked-built : bufs ≡ buffers t d m
+  checked-built = found-built ∙ ap (λ (u : Shape). buffers u d m) (sym same)
+
+  pub checked-small : size t d m ≤ limit
+  checked-small = subst (λ (u : Shape). size u d m ≤ limit) (sym same) (built-small s d bufs m law found-built (checked-is s d bufs m law h).small)
+
+-- it is held with them
+pub told-held : (s : Shape) (x : Declared) (bufs : List (List ℤ)) (m : Map) (h : Kept) → h ≡ record { declared = x; matrix = m; buffers = bufs } → shape_in m ≡ s
+    → checked s (declaration_of x) bufs ≡ Ok (entries_in m) → TellsChecked s x bufs (Ok h)
+told-held s x bufs m h e q c = subst (λ (k : Kept). TellsChecked s x bufs (Ok k)) (sym e) (c, (refl, (q, refl)))
 
 -- ---- what an answer says of well-formed buffers
 

@@ -29,10 +29,6 @@ abbrev pub compared : Shape → Declaration → List (List ℤ) → Result (List
 compared s d bufs (Err at) = Err (Climb (suc at.0) at.1)
 compared s d bufs (Ok m) = unless_different m (difference_of s d m bufs)
 
--- a matrix, unless its own buffers differ from these
-abbrev pub compared_matrix : Shape → Declaration → List Entry → List (List ℤ) → Result (List Entry) Broken
-compared_matrix s d m bufs = unless_different m (difference_of s d m bufs)
-
 -- what is read at the positions, compared with the buffers
 abbrev pub read_back : Shape → Declaration → List (List ℤ) → Result (List Entry) Broken
 read_back s d bufs = compared s d bufs (collected s d bufs)

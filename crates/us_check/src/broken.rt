@@ -1,8 +1,10 @@
 //! Why buffers are not well-formed.
 ghost use Rattle.std.specs.Prelude.{◌≡◌};
 ghost use Rattle.us_check.specs.declared.broken.Broken.TheVariants.{Memory};
+ghost use Rattle.us_check.specs.Checks.{broken_by};
 
 use std::alloc::AllocError;
+use us_levels::Difference;
 
 /// The first reason why buffers are not a format's buffers of a matrix within the limit. Parts are numbered from 1, buffers,
 /// positions and cells from 0.
@@ -41,5 +43,26 @@ impl From<AllocError> for Broken {
 
     fn from(_e: AllocError) -> Broken {
         Broken::Memory
+    }
+}
+
+impl From<Difference> for Broken {
+    ghost from_gives = { λ difference b. b ≡ broken_by difference };
+
+    fn from(difference: Difference) -> Broken {
+        match difference {
+            Difference::Cell {
+                buffer,
+                x,
+                have,
+                want,
+            } => Broken::Cell {
+                buffer,
+                x,
+                have,
+                want,
+            },
+            Difference::Long { buffer, have, want } => Broken::Long { buffer, have, want },
+        }
     }
 }

@@ -7,16 +7,16 @@ ghost use Rattle.us_format.specs.Reading.{limit, fits, size_in};
 ghost use Rattle.us_format.specs.Rules.{IsLawfulDeclaration};
 ghost use Rattle.us_judge.specs.Views.{declaration_of};
 ghost use Rattle.us_check.specs.declared.broken.Broken.TheVariants.{Climb, Memory};
-ghost use Rattle.us_check.specs.Checks.{IsWellFormedWithin, Tells, TellsChecked, TellsFault, checked, read_back};
+ghost use Rattle.us_check.specs.Checks.{IsWellFormedWithin, TellsChecked, TellsFault, checked};
 
 use crate::broken::Broken;
 use crate::collecting::matrix_of;
-use crate::comparing::compare;
 use crate::held::Held;
 use crate::repeats::first_repeated;
 use std::alloc::Global;
 use us_climb::{Position, is_within_limit, misfit, read_entries};
 use us_judge::Format;
+use us_levels::differs;
 use us_matrix::{Buffers, Matrix, Shape};
 
 // Whether the lengths fit, and are within the limit.
@@ -56,9 +56,11 @@ fn read_matrix(
 ) -> Result<Matrix, Broken>
     requires rows { IsSide shape.rows }
     requires cols { IsSide shape.cols }
+    requires fitting { fits (plain_shape shape) (declaration_of format.now) buffers.now ≡ true }
+    requires within { size_in (plain_shape shape) (declaration_of format.now) buffers.now ≤ limit }
     ensures shape { IfOk result (λ m. shape_in m ≡ plain_shape shape) }
     ensures read { IfOk result (λ m. collected (plain_shape shape) (declaration_of format.now) buffers.now ≡ Ok (entries_in m)) }
-    ensures fault { IfErr result (λ fault. TellsFault (read_back (plain_shape shape) (declaration_of format.now) buffers.now) fault) }
+    ensures fault { IfErr result (λ fault. TellsFault (checked (plain_shape shape) (declaration_of format.now) buffers.now) fault) }
 {
     // so the number of a part has 64 bits
     let _ = format.parts();
@@ -73,36 +75,25 @@ fn read_matrix(
     Ok(matrix)
 }
 
-// The matrix held with buffers that fit and are within the limit, or the first reason why they are not well-formed.
-fn check_fitting(
+// The matrix whose buffers these are, within the limit, or the first reason why there is none.
+fn matrix_of_buffers(
     alloc: Global,
-    format: Format,
+    format: &Format,
     shape: Shape,
-    buffers: Buffers,
-) -> Result<Held, Broken>
+    buffers: &Buffers,
+) -> Result<Matrix, Broken>
     requires rows { IsSide shape.rows }
     requires cols { IsSide shape.cols }
-    requires fitting { fits (plain_shape shape) (declaration_of format) buffers ≡ true }
-    requires within { size_in (plain_shape shape) (declaration_of format) buffers ≤ limit }
-    ensures { Tells (plain_shape shape) format buffers (read_back (plain_shape shape) (declaration_of format) buffers) result }
+    ensures shape { IfOk result (λ m. shape_in m ≡ plain_shape shape) }
+    ensures is { IfOk result (λ m. checked (plain_shape shape) (declaration_of format.now) buffers.now ≡ Ok (entries_in m)) }
+    ensures fault { IfErr result (λ fault. TellsFault (checked (plain_shape shape) (declaration_of format.now) buffers.now) fault) }
 {
-    let matrix = read_matrix(alloc, &format, shape, &buffers)?;
-    compare(alloc, format, matrix, buffers)
-}
-
-// The matrix held with the buffers, or the first reason why they are not well-formed within the limit.
-fn hold_or_refuse(
-    alloc: Global,
-    format: Format,
-    shape: Shape,
-    buffers: Buffers,
-) -> Result<Held, Broken>
-    requires rows { IsSide shape.rows }
-    requires cols { IsSide shape.cols }
-    ensures { TellsChecked (plain_shape shape) format buffers result }
-{
-    test_lengths(&format, shape, &buffers)?;
-    check_fitting(alloc, format, shape, buffers)
+    test_lengths(format, shape, buffers)?;
+    let matrix = read_matrix(alloc, format, shape, buffers)?;
+    match differs(alloc, format, &matrix, buffers)? {
+        Some(difference) => Err(Broken::from(difference)),
+        None => Ok(matrix),
+    }
 }
 
 // The declaration of a format is lawful: it is accepted.
@@ -123,5 +114,8 @@ pub fn check(alloc: Global, format: Format, shape: Shape, buffers: Buffers) -> R
     ensures reason { TellsChecked (plain_shape shape) format buffers result }
 {
     is_lawful(&format);
-    hold_or_refuse(alloc, format, shape, buffers)
+    match matrix_of_buffers(alloc, &format, shape, &buffers) {
+        Ok(matrix) => Ok(Held::from_parts(format, matrix, buffers)),
+        Err(fault) => Err(fault),
+    }
 }

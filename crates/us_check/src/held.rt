@@ -36,8 +36,9 @@ impl Model for Held {
     ghost invariant = { λ h. IsHeld (record { declared = h.format; matrix = h.matrix; buffers = h.buffers }) };
 }
 
-// The format's buffers of a matrix mean the matrix: the declaration is accepted, and the matrix is in order.
+// The format's buffers of a matrix mean the matrix, within the limit: the declaration is accepted, and the matrix is in order.
 fn mean_the_matrix(format: &Format, matrix: &Matrix)
+    requires { size (shape_in matrix.now) (declaration_of format.now) (entries_in matrix.now) ≤ limit }
     ensures { let built = buffers_of (shape_in matrix.now) (declaration_of format.now) (entries_in matrix.now) in
         meaning (shape_in matrix.now) (declaration_of format.now) built ≡ Some (entries_in matrix.now) }
 {

@@ -4,7 +4,6 @@
 mod broken;
 mod checking;
 mod collecting;
-mod comparing;
 mod held;
 mod laws;
 mod repeats;

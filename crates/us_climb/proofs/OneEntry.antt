@@ -1,5 +1,4 @@
--- The entry at a position of an undivided declaration without queries, by its layout.
-use Rattle.std.specs.Prelude.{slice_get}
+-- The entry at a position of a part, by its layout.
 use Rattle.std.proofs.Common.{◌≡◌, ℕ, zero, suc, ◌<◌, List, [], ◌∷◌, map, length, get_or, ◌%◌, ◌/◌, Bool, true, false, cond, ltb, ℤ, pos, negsuc, ◌≤ℤ◌, ◌<ℤ◌, refl, sym, ap, ap₂, subst, ◌∙◌, arith, Option, Some, None}
 use Rattle.std.specs.List.{All}
 use Rattle.std.proofs.lemmas.Bool.Decides.{nat_tests}
@@ -12,27 +11,28 @@ use Rattle.us_format.specs.declared.Kind.{Kind}
 use Rattle.us_format.specs.declared.Kind.TheVariants.{Full, Compressed, Listed, Slot}
 use Rattle.us_format.specs.Lists.{then_do, nth, cell, nat_of}
 use Rattle.us_format.specs.Matrix.{Shape, Entry, in_shape}
-use Rattle.us_format.specs.Declaration.{Query, Part, Declaration}
+use Rattle.us_format.specs.Declaration.{Part, Declaration}
 use Rattle.us_format.specs.Coordinates.{variable_ranges, level_range, span}
-use Rattle.us_format.specs.Kinds.{kind, levels_of}
-use Rattle.us_format.specs.Packs.{pieces}
-use Rattle.us_format.specs.Climb.{as_coordinate, parent_of, up, climb, values}
+use Rattle.us_format.specs.Kinds.{kind}
+use Rattle.us_format.specs.Climb.{as_coordinate, parent_of, up}
 use Rattle.us_format.specs.Known.{Steps}
 use Rattle.us_format.specs.Recover.{recovered, plan_of}
-use Rattle.us_format.specs.Reading.{extent_count, extents_in, tables_in, cells_in, all_contents}
-use Rattle.us_format.specs.Meaning.{entry_at}
+use Rattle.us_format.specs.Program.{plain_shape}
 use Rattle.us_invert.specs.declared.recovering.Cell.{Cell}
-use Rattle.us_invert.specs.Recovery.{cell_of, found_of, HasCoordinate}
+use Rattle.us_invert.specs.Recovery.{cell_of, found_of, tables_of, HasCoordinate}
 use Rattle.us_known.specs.Table.{tree_at}
 use Rattle.us_invert.proofs.PlanRanges.{plan-coordinates}
+use Rattle.us_decl.specs.Declares.{Declared}
 use Rattle.us_judge.specs.Format.{part_at}
-use Rattle.us_climb.specs.declared.layout.ColumnPlace.{ColumnPlace}
+use Rattle.us_judge.specs.Views.{declaration_of}
+use Rattle.us_matrix.specs.declared.shape.Shape as code
 use Rattle.us_climb.specs.declared.layout.LevelLayout.{LevelLayout}
 use Rattle.us_climb.specs.declared.layout.Layout.{Layout}
 use Rattle.us_climb.specs.Layout.{IsLayout, level_layout, layout_from, cells_at, held_at, up_by, climb_by, IsClimbed}
-use Rattle.us_climb.specs.Own.{IsUndivided}
+use Rattle.us_climb.specs.Own.{buffers_before}
 use Rattle.us_climb.specs.Entries.{entry_in}
-use Rattle.us_climb.proofs.Walks.{climb-there, values-there}
+use Rattle.us_climb.specs.Readers.{IsReader, extents_from, tables_from}
+use Rattle.us_climb.proofs.PartContents.{part-entry}
 
 -- ---- what a climb answers
 
@@ -85,50 +85,50 @@ up_below Listed size lists x q c h =
     let e : r.0 ≡ c = second_same t.0 q r.0 c t.2 in subst (λ n. n < size) e (coordinate_below size _ r.0 r.1)
 up_below Slot size lists x q c h = let r = then_some (as_coordinate size (cell (nth lists 0) x)) (λ a. Some (x, a)) (q, c) h in let e : r.0 ≡ c = second_same x q r.0 c r.2 in subst (λ n. n < size) e (coordinate_below size _ r.0 r.1)
 
-size_is : (p : Part) (k size : ℕ) (kd : Kind) → (level_layout p k size kd).size ≡ size
-size_is p k size Full = refl
-size_is p k size Compressed = refl
-size_is p k size Listed = refl
-size_is p k size Slot = refl
+size_is : (f : ℕ) (p : Part) (k size : ℕ) (kd : Kind) → (level_layout f p k size kd).size ≡ size
+size_is f p k size Full = refl
+size_is f p k size Compressed = refl
+size_is f p k size Listed = refl
+size_is f p k size Slot = refl
 
 -- as many coordinates as levels, each below the size of its level
-abbrev pub AreBelow : Shape → Part → List Tree → List ℕ → Type 0
-AreBelow s p [] cs = cs ≡ []
-AreBelow s p (e ∷ es) cs = (c : ℕ) × (rest : List ℕ) × (cs ≡ c ∷ rest) × (c < span (level_range s [] p e)) × AreBelow s p es rest
+abbrev pub AreBelow : Shape → List ℕ → Part → List Tree → List ℕ → Type 0
+AreBelow s ns p [] cs = cs ≡ []
+AreBelow s ns p (e ∷ es) cs = (c : ℕ) × (rest : List ℕ) × (cs ≡ c ∷ rest) × (c < span (level_range s ns p e)) × AreBelow s ns p es rest
 
-module _ (s : Shape) (p : Part) (bufs : List (List ℤ)) where
-  pub climb_below : (k : ℕ) (es : List Tree) (x q : ℕ) (cs : List ℕ) → climb_by (layout_from s [] p k es) bufs x ≡ Some (q, cs) → AreBelow s p es cs
+module _ (f : ℕ) (s : Shape) (ns : List ℕ) (p : Part) (bufs : List (List ℤ)) where
+  pub climb_below : (k : ℕ) (es : List Tree) (x q : ℕ) (cs : List ℕ) → climb_by (layout_from f s ns p k es) bufs x ≡ Some (q, cs) → AreBelow s ns p es cs
   climb_below k [] x q cs h = sym (second_same x q [] cs h)
   climb_below k (e ∷ es) x q cs h =
-      let size : ℕ = span (level_range s [] p e) in
-      let l : LevelLayout = level_layout p k (span (level_range s [] p e)) (kind p k) in
-      let r = then_some (climb_by (layout_from s [] p (suc k) es) bufs x) (λ (y, ds). then_do (up_by l bufs y) (λ (t, c). Some (t, c ∷ ds))) (q, cs) h in
+      let size : ℕ = span (level_range s ns p e) in
+      let l : LevelLayout = level_layout f p k (span (level_range s ns p e)) (kind p k) in
+      let r = then_some (climb_by (layout_from f s ns p (suc k) es) bufs x) (λ (y, ds). then_do (up_by l bufs y) (λ (t, c). Some (t, c ∷ ds))) (q, cs) h in
       let u = then_some (up_by l bufs r.0.0) (λ (t, c). Some (t, c ∷ r.0.1)) (q, cs) r.2 in
       let is : cs ≡ u.0.1 ∷ r.0.1 = sym (second_same u.0.0 q (u.0.1 ∷ r.0.1) cs u.2) in
-      (u.0.1, r.0.1, is, subst (λ n. u.0.1 < n) (size_is p k (span (level_range s [] p e)) (kind p k)) (up_below l.kind l.size (held_at l bufs) r.0.0 u.0.0 u.0.1 u.1), climb_below (suc k) es x r.0.0 r.0.1 r.1)
+      (u.0.1, r.0.1, is, subst (λ n. u.0.1 < n) (size_is f p k (span (level_range s ns p e)) (kind p k)) (up_below l.kind l.size (held_at l bufs) r.0.0 u.0.0 u.0.1 u.1), climb_below (suc k) es x r.0.0 r.0.1 r.1)
 
-  below_at : (es : List Tree) (cs : List ℕ) → AreBelow s p es cs → (k : ℕ) → k < length es → (k < length cs) × (get_or cs k 0 < span (level_range s [] p (get_or es k RowIndex)))
+  below_at : (es : List Tree) (cs : List ℕ) → AreBelow s ns p es cs → (k : ℕ) → k < length es → (k < length cs) × (get_or cs k 0 < span (level_range s ns p (get_or es k RowIndex)))
   below_at [] cs h k l = absurd (omega arith)
   below_at (e ∷ es) cs (c, rest, is, b, more) zero l =
-      subst (λ (xs : List ℕ). (0 < length xs) × (get_or xs 0 0 < span (level_range s [] p e))) (sym is) (omega arith, b)
+      subst (λ (xs : List ℕ). (0 < length xs) × (get_or xs 0 0 < span (level_range s ns p e))) (sym is) (omega arith, b)
   below_at (e ∷ es) cs (c, rest, is, b, more) (suc k) l =
       let ih = below_at es rest more k (omega arith) in
-      subst (λ (xs : List ℕ). (suc k < length xs) × (get_or xs (suc k) 0 < span (level_range s [] p (get_or es k RowIndex)))) (sym is) (omega (arith, ih.0), ih.1)
+      subst (λ (xs : List ℕ). (suc k < length xs) × (get_or xs (suc k) 0 < span (level_range s ns p (get_or es k RowIndex)))) (sym is) (omega (arith, ih.0), ih.1)
 
   -- what the recovery wants of the coordinates
-  pub coordinates-fit : (plan : Steps) (rows cols : ℕ) (vars : List Range) (vs : List ℤ) (cs : List ℕ) → plan ≡ plan_of p.levels p.queries → s.rows ≡ rows → s.cols ≡ cols → vars ≡ variable_ranges s [] p
-      → vs ≡ map pos cs → AreBelow s p p.levels cs → All (HasCoordinate rows cols vars vs) plan
+  pub coordinates-fit : (plan : Steps) (rows cols : ℕ) (vars : List Range) (vs : List ℤ) (cs : List ℕ) → plan ≡ plan_of p.levels p.queries → s.rows ≡ rows → s.cols ≡ cols → vars ≡ variable_ranges s ns p
+      → vs ≡ map pos cs → AreBelow s ns p p.levels cs → All (HasCoordinate rows cols vars vs) plan
   coordinates-fit plan rows cols vars vs cs is r c v e below =
       subst (λ (steps : Steps). All (HasCoordinate rows cols vars vs) steps) (sym is) (plan-coordinates rows cols vars vs p.levels p.queries each)
     where
       each : (k : ℕ) → k < length p.levels → (k < length vs) × (pos 0 ≤ℤ cell vs k) × (cell vs k <ℤ pos (span (range rows cols vars (tree_at p.levels k))))
       each k l =
-          let b : (k < length cs) × (get_or cs k 0 < span (level_range s [] p (get_or p.levels k RowIndex))) = below_at p.levels cs below k l in
+          let b : (k < length cs) × (get_or cs k 0 < span (level_range s ns p (get_or p.levels k RowIndex))) = below_at p.levels cs below k l in
           let long : k < length vs = subst (λ (zs : List ℤ). k < length zs) (sym e) (subst (λ n. k < n) (sym (length-map cs pos)) b.0) in
           let at : cell vs k ≡ pos (get_or cs k 0) = ap (λ (zs : List ℤ). cell zs k) e ∙ get_or-map pos cs k 0 (pos 0) b.0 in
-          let size : span (level_range s [] p (get_or p.levels k RowIndex)) ≡ span (range rows cols vars (tree_at p.levels k)) =
-          ap (λ m. span (range m s.cols (variable_ranges s [] p) (get_or p.levels k RowIndex))) r
-          ∙ ap (λ m. span (range rows m (variable_ranges s [] p) (get_or p.levels k RowIndex))) c
+          let size : span (level_range s ns p (get_or p.levels k RowIndex)) ≡ span (range rows cols vars (tree_at p.levels k)) =
+          ap (λ m. span (range m s.cols (variable_ranges s ns p) (get_or p.levels k RowIndex))) r
+          ∙ ap (λ m. span (range rows m (variable_ranges s ns p) (get_or p.levels k RowIndex))) c
           ∙ ap (λ (rs : List Range). span (range rows cols rs (get_or p.levels k RowIndex))) (sym v) in
           (long, subst (λ z. pos 0 ≤ℤ z) (sym at) (omega (arith, ints)), subst (λ z. z <ℤ pos (span (range rows cols vars (tree_at p.levels k)))) (sym at) (omega (arith, ints, b.1, size)))
 
@@ -138,41 +138,46 @@ then_then : {A B C : Type 0} (o : Option A) (f : A → Option B) (g : B → Opti
 then_then None f g = refl
 then_then (Some a) f g = refl
 
-module _ (s : Shape) (d : Declaration) (bufs : List (List ℤ)) (one : IsUndivided d) (l : Layout) (layout : IsLayout s (part_at d 0) l) where
-  abbrev p : Part
-  p = part_at d 0
-
-  -- the entry at a position of the part, where the queries have these extents and tables
-  abbrev read_with : ℕ → List ℕ → List (List ℤ) → Option Entry
-  read_with x extents tables =
-      then_do (climb (levels_of s extents p) (map (cells_in p bufs) (pieces p)) x) (λ up.
-      then_do (recovered s p (record { coords = up.1; extents = extents; tables = tables })) (λ ij. in_shape s ij (cell (values (levels_of s extents p) (map (cells_in p bufs) (pieces p))) x)))
-
-  pub entry-laid : (x : ℕ) → entry_in s d bufs (0, x)
-      ≡ then_do (climb_by l.levels.items bufs x) (λ up. then_do (recovered s p (record { coords = up.1; extents = []; tables = [] })) (λ ij. in_shape s ij (cell (cells_at l.values bufs) x)))
-  entry-laid x =
-      ap (λ (ps : List Part). then_do (slice_get (all_contents ps bufs) 0) (λ part. entry_at s part.0 part.1 x)) one.parts
-      ∙ ap (λ (qs : List Query). read_with x (extents_in 0 bufs qs) (tables_in (extent_count p) bufs qs)) one.queries
-      ∙ ap₂ (λ (o : Option (ℕ × List ℕ)) (vs : List ℤ). then_do o (λ up. then_do (recovered s p (record { coords = up.1; extents = []; tables = [] })) (λ ij. in_shape s ij (cell vs x))))
-      (climb-there s [] p bufs 0 p.levels x ∙ ap (λ (ls : List LevelLayout). climb_by ls bufs x) (sym layout.levels))
-      (values-there s [] p bufs 0 p.levels ∙ ap (λ (place : ColumnPlace). cells_at place bufs) (sym layout.values))
+module _ (s : Shape) (d : Declaration) (bufs : List (List ℤ)) (k f : ℕ) (there : k < length d.parts) (first : f ≡ buffers_before d.parts k) (l : Layout)
+    (layout : IsLayout f s (extents_from f bufs (part_at d k)) (part_at d k) l) where
+  -- what is recovered at a position
+  abbrev pub found_by : ℕ → Option (ℤ × ℤ)
+  found_by x =
+      then_do (climb_by l.levels.items bufs x)
+      (λ up. recovered s (part_at d k) (record { coords = up.1; extents = extents_from f bufs (part_at d k); tables = tables_from f bufs (part_at d k) }))
 
   -- the pair of indices that is recovered, and the entry
-  pub entry-recovered : (x : ℕ) (o : Option Cell) → cell_of o ≡ then_do (climb_by l.levels.items bufs x) (λ up. recovered s p (record { coords = up.1; extents = []; tables = [] }))
-      → entry_in s d bufs (0, x) ≡ then_do (cell_of o) (λ ij. in_shape s ij (cell (cells_at l.values bufs) x))
+  pub entry-recovered : (x : ℕ) (o : Option Cell) → cell_of o ≡ found_by x → entry_in s d bufs (k, x) ≡ then_do (cell_of o) (λ ij. in_shape s ij (cell (cells_at l.values bufs) x))
   entry-recovered x o h =
-      entry-laid x
-      ∙ then_then (climb_by l.levels.items bufs x) (λ up. recovered s p (record { coords = up.1; extents = []; tables = [] })) (λ ij. in_shape s ij (cell (cells_at l.values bufs) x))
+      part-entry s d bufs k f there first l layout x
+      ∙ then_then (climb_by l.levels.items bufs x)
+      (λ up. recovered s (part_at d k) (record { coords = up.1; extents = extents_from f bufs (part_at d k); tables = tables_from f bufs (part_at d k) }))
+      (λ ij. in_shape s ij (cell (cells_at l.values bufs) x))
       ∙ ap (λ (r : Option (ℤ × ℤ)). then_do r (λ ij. in_shape s ij (cell (cells_at l.values bufs) x))) (sym h)
+
+-- the entry and the value at a position, of the same part of the same buffers
+pub entry-moved : (s t : code.Shape) (f g : Declared) (a b : List (List ℤ)) (m n x : ℕ) (o : Option Entry) → s ≡ t → f ≡ g → a ≡ b → m ≡ n → entry_in (plain_shape s) (declaration_of f) a (m, x) ≡ o
+    → entry_in (plain_shape t) (declaration_of g) b (n, x) ≡ o
+entry-moved s t f g a b m n x o p q r e h =
+    ap (λ (z : code.Shape). entry_in (plain_shape z) (declaration_of g) b (n, x)) (sym p)
+    ∙ ap₂ (λ (u : Declared) (bufs : List (List ℤ)). entry_in (plain_shape s) (declaration_of u) bufs (n, x)) (sym q) (sym r)
+    ∙ ap (λ (k : ℕ). entry_in (plain_shape s) (declaration_of f) a (k, x)) (sym e) ∙ h
+
+-- a reader of a part, by the number of the part's first buffer
+pub reader-placed : (s : Shape) (d : Declaration) (number : ℕ) (bufs : List (List ℤ)) (l : Layout) {f g : ℕ} {plan : Steps} {parents : List (List ℕ)} {rows cols : ℕ} {vars : List Range} {at extents : List ℕ} → f ≡ g
+    → IsReader s d number f bufs plan l parents rows cols vars at extents → IsReader s d number g bufs plan l parents rows cols vars at extents
+reader-placed s d number bufs l {plan = plan} {parents = parents} {rows = rows} {cols = cols} {vars = vars} {at = at} {extents = extents} e h =
+    subst (λ (j : ℕ). IsReader s d number j bufs plan l parents rows cols vars at extents) e h
 
 -- coordinates as numbers
 pub numbers-back : (cs : List ℕ) → map nat_of (map pos cs) ≡ cs
 numbers-back [] = refl
 numbers-back (c ∷ cs) = ap (λ (ds : List ℕ). c ∷ ds) (numbers-back cs)
 
--- what a climb left, where there are no queries
-pub found-back : (s : Shape) (p : Part) (bufs : List (List ℤ)) (vs : List ℤ) (at extents cs : List ℕ) → vs ≡ map pos cs → at ≡ [] → extents ≡ []
-    → recovered s p (found_of vs bufs at extents) ≡ recovered s p (record { coords = cs; extents = []; tables = [] })
-found-back s p bufs vs at extents cs v a e =
-    ap₂ (λ (zs : List ℤ) (ks : List ℕ). recovered s p (found_of zs bufs ks extents)) v a
-    ∙ ap₂ (λ (ds es : List ℕ). recovered s p (record { coords = ds; extents = es; tables = [] })) (numbers-back cs) e
+-- what a climb left, with the extents and the tables of the queries
+pub found-back : (s : Shape) (p : Part) (bufs : List (List ℤ)) (vs : List ℤ) (at extents cs ns : List ℕ) (ts : List (List ℤ)) → vs ≡ map pos cs → tables_of bufs at ≡ ts → extents ≡ ns
+    → recovered s p (found_of vs bufs at extents) ≡ recovered s p (record { coords = cs; extents = ns; tables = ts })
+found-back s p bufs vs at extents cs ns ts v a e =
+    ap (λ (zs : List ℤ). recovered s p (found_of zs bufs at extents)) v
+    ∙ ap₂ (λ (ds es : List ℕ). recovered s p (record { coords = ds; extents = es; tables = tables_of bufs at })) (numbers-back cs) e
+    ∙ ap (λ (us : List (List ℤ)). recovered s p (record { coords = cs; extents = ns; tables = us })) a

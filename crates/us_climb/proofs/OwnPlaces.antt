@@ -1,14 +1,14 @@
 -- The numbers of the buffers of pieces that no pack has.
-use Rattle.std.proofs.Common.{◌≡◌, ℕ, zero, suc, ◌+◌, ◌⊎◌, List, [], ◌∷◌, ◌++◌, length, drop, Bool, true, false, cond, not, refl, sym, ap, subst, ◌∙◌, inl, inr, arith, filter, count_by}
+use Rattle.std.proofs.Common.{◌≡◌, ℕ, zero, suc, ◌+◌, ◌⊎◌, List, [], ◌∷◌, ◌++◌, length, drop, Bool, true, false, cond, not, refl, sym, ap, subst, ◌∙◌, inl, inr, arith, filter}
 use Rattle.std.specs.List.{position_or_len}
 use Rattle.std.proofs.lemmas.List.Elements.{filter-append}
 use Rattle.std.proofs.Math.Seq.{drop-append_seam}
 use Rattle.std.proofs.lemmas.List.{drop-drop}
 use Rattle.us_format.specs.declared.Kind.{Kind}
 use Rattle.us_format.specs.declared.Kind.TheVariants.{Compressed, Listed, Slot}
-use Rattle.us_format.specs.Declaration.{Column, LevelColumn, Part, has_extent, has_table}
+use Rattle.us_format.specs.Declaration.{Column, LevelColumn, Part}
 use Rattle.us_format.specs.Packs.{Piece, PosOf, CellsOf, level_pieces, is_packed, pieces, own_pieces, same_piece}
-use Rattle.us_format.specs.Reading.{own_place}
+use Rattle.us_format.specs.Reading.{own_place, extent_count, table_count}
 use Rattle.us_judge.specs.Buffers.{is_own}
 use Rattle.us_climb.specs.declared.layout.ColumnPlace.{ColumnPlace}
 use Rattle.us_climb.specs.declared.layout.LevelLayout.{LevelLayout}
@@ -56,16 +56,17 @@ at_drop (suc n) x (y ∷ ys) rest d e =
 
 -- ---- numbers
 
--- a part without queries has no extents and tables
-pub own_number : (p : Part) (x : Piece) → p.queries ≡ [] → own_place p x ≡ position_or_len (same_piece x) (own_pieces p)
-own_number p x none =
-    ap (λ qs. count_by has_extent qs + count_by has_table qs + position_or_len (same_piece x) (own_pieces p)) none ∙ omega arith
+-- the number of the buffer of a part's own piece j
+abbrev pub own_number : Part → ℕ → ℕ
+own_number p j = extent_count p + table_count p + j
 
--- the first of the own pieces from number n on has this number
-pub own-here : (p : Part) (n : ℕ) (x : Piece) (more : List Piece) → p.queries ≡ [] → drop n (own_pieces p) ≡ filter (is_own p) (x ∷ more) → is_packed p x ≡ false → n ≡ own_place p x
-own-here p n x more none rest h =
-    sym (own_number p x none ∙ at_drop n x (own_pieces p) (filter (is_own p) more) (distinct-filter (is_own p) (pieces p) (pieces-distinct p 0 p.levels))
-    (rest ∙ ap (λ b. cond (not b) (x ∷ filter (is_own p) more) (filter (is_own p) more)) h))
+-- the first of the own pieces from number j on has this number
+pub own-here : (p : Part) (n j : ℕ) (x : Piece) (more : List Piece) → n ≡ own_number p j → drop j (own_pieces p) ≡ filter (is_own p) (x ∷ more) → is_packed p x ≡ false → n ≡ own_place p x
+own-here p n j x more is rest h =
+    is
+    ∙ ap (own_number p)
+    (sym (at_drop j x (own_pieces p) (filter (is_own p) more) (distinct-filter (is_own p) (pieces p) (pieces-distinct p 0 p.levels))
+    (rest ∙ ap (λ b. cond (not b) (x ∷ filter (is_own p) more) (filter (is_own p) more)) h)))
 
 next_drop : {A : Type 0} (n : ℕ) (x : A) (xs rest : List A) → drop n xs ≡ x ∷ rest → drop (n + 1) xs ≡ rest
 next_drop n x xs rest e = sym (drop-drop 1 n xs) ∙ ap (drop 1) e
@@ -79,29 +80,31 @@ own-next p n xs more rest =
 
 -- ---- levels
 
-pub pos-here : (p : Part) (n k : ℕ) (c : Column) (more : List Piece) → p.queries ≡ [] → drop n (own_pieces p) ≡ filter (is_own p) (PosOf k ∷ (CellsOf c ∷ more)) → n ≡ own_place p (PosOf k)
-pos-here p n k c more none rest = own-here p n (PosOf k) (CellsOf c ∷ more) none rest refl
+pub pos-here : (p : Part) (n j k : ℕ) (c : Column) (more : List Piece) → n ≡ own_number p j → drop j (own_pieces p) ≡ filter (is_own p) (PosOf k ∷ (CellsOf c ∷ more)) → n ≡ own_place p (PosOf k)
+pos-here p n j k c more is rest = own-here p n j (PosOf k) (CellsOf c ∷ more) is rest refl
 
-pub cells-behind : (p : Part) (n k : ℕ) (c : Column) (more : List Piece) → p.queries ≡ [] → drop n (own_pieces p) ≡ filter (is_own p) (PosOf k ∷ (CellsOf c ∷ more)) → is_packed p (CellsOf c) ≡ false → n + 1 ≡ own_place p (CellsOf c)
-cells-behind p n k c more none rest h = own-here p (n + 1) (CellsOf c) more none (next_drop n (PosOf k) (own_pieces p) (filter (is_own p) (CellsOf c ∷ more)) rest) h
+pub cells-behind : (p : Part) (n j k : ℕ) (c : Column) (more : List Piece) → n ≡ own_number p j → drop j (own_pieces p) ≡ filter (is_own p) (PosOf k ∷ (CellsOf c ∷ more)) → is_packed p (CellsOf c) ≡ false
+    → n + 1 ≡ own_place p (CellsOf c)
+cells-behind p n j k c more is rest h =
+    own-here p (n + 1) (j + 1) (CellsOf c) more (omega (arith, is)) (next_drop j (PosOf k) (own_pieces p) (filter (is_own p) (CellsOf c ∷ more)) rest) h
 
 -- the pieces of a level that has starts
 pub stored-rest : (p : Part) (n k : ℕ) (kind : Kind) → ((kind ≡ Compressed) ⊎ (kind ≡ Listed)) → (o : AreOwnFrom p n k kind)
-    → drop n (own_pieces p) ≡ filter (is_own p) (PosOf k ∷ (CellsOf (LevelColumn k) ∷ o.more))
+    → drop o.number (own_pieces p) ≡ filter (is_own p) (PosOf k ∷ (CellsOf (LevelColumn k) ∷ o.more))
 stored-rest p n k kind (inl e) o = o.rest ∙ ap (λ (x : Kind). filter (is_own p) (level_pieces k x ++ o.more)) e
 stored-rest p n k kind (inr e) o = o.rest ∙ ap (λ (x : Kind). filter (is_own p) (level_pieces k x ++ o.more)) e
 
-pub stored-cells : (p : Part) (n k : ℕ) (kind : Kind) → ((kind ≡ Compressed) ⊎ (kind ≡ Listed)) → p.queries ≡ [] → AreOwnFrom p n k kind
+pub stored-cells : (p : Part) (n k : ℕ) (kind : Kind) → ((kind ≡ Compressed) ⊎ (kind ≡ Listed)) → AreOwnFrom p n k kind
     → is_packed p (CellsOf (LevelColumn k)) ≡ false → n + 1 ≡ own_place p (CellsOf (LevelColumn k))
-stored-cells p n k kind is none o h = cells-behind p n k (LevelColumn k) o.more none (stored-rest p n k kind is o) h
+stored-cells p n k kind is o h = cells-behind p n o.number k (LevelColumn k) o.more o.is (stored-rest p n k kind is o) h
 
-pub slot-cells : (p : Part) (n k : ℕ) (kind : Kind) → kind ≡ Slot → p.queries ≡ [] → AreOwnFrom p n k kind → is_packed p (CellsOf (LevelColumn k)) ≡ false → n ≡ own_place p (CellsOf (LevelColumn k))
-slot-cells p n k kind is none o h =
-    own-here p n (CellsOf (LevelColumn k)) o.more none (o.rest ∙ ap (λ (x : Kind). filter (is_own p) (level_pieces k x ++ o.more)) is) h
+pub slot-cells : (p : Part) (n k : ℕ) (kind : Kind) → kind ≡ Slot → AreOwnFrom p n k kind → is_packed p (CellsOf (LevelColumn k)) ≡ false → n ≡ own_place p (CellsOf (LevelColumn k))
+slot-cells p n k kind is o h =
+    own-here p n o.number (CellsOf (LevelColumn k)) o.more o.is (o.rest ∙ ap (λ (x : Kind). filter (is_own p) (level_pieces k x ++ o.more)) is) h
 
-pub stored-layout : (p : Part) (n k size : ℕ) (kind : Kind) (place : ColumnPlace) → ((kind ≡ Compressed) ⊎ (kind ≡ Listed)) → p.queries ≡ [] → AreOwnFrom p n k kind
-    → place ≡ place_in p (LevelColumn k) → ◌≡◌ {A = LevelLayout} (record { kind = kind; size = size; starts = n; cells = place }) (level_layout p k size kind)
-stored-layout p n k size kind place (inl e) none o at =
-    rw (e, at, pos-here p n k (LevelColumn k) o.more none (stored-rest p n k kind (inl e) o)) refl
-stored-layout p n k size kind place (inr e) none o at =
-    rw (e, at, pos-here p n k (LevelColumn k) o.more none (stored-rest p n k kind (inr e) o)) refl
+pub stored-layout : (base : ℕ) (p : Part) (n k size : ℕ) (kind : Kind) (place : ColumnPlace) → ((kind ≡ Compressed) ⊎ (kind ≡ Listed)) → AreOwnFrom p n k kind
+    → place ≡ place_in base p (LevelColumn k) → ◌≡◌ {A = LevelLayout} (record { kind = kind; size = size; starts = base + n; cells = place }) (level_layout base p k size kind)
+stored-layout base p n k size kind place (inl e) o at =
+    rw (e, at, pos-here p n o.number k (LevelColumn k) o.more o.is (stored-rest p n k kind (inl e) o)) refl
+stored-layout base p n k size kind place (inr e) o at =
+    rw (e, at, pos-here p n o.number k (LevelColumn k) o.more o.is (stored-rest p n k kind (inr e) o)) refl

@@ -56,30 +56,30 @@ four : {a b c d e f : ℕ} {x y : Bool} → a ≡ b → c ≡ d → e ≡ f → 
     → ◌≡◌ {A = ColumnPlace} (record { buffer = a; column = c; columns = e; begins = x }) (record { buffer = b; column = d; columns = f; begins = y })
 four {a} {b} {c} {d} {e} {f} {x} {y} p q r s = rw (p, q, r, s) refl
 
-pub place-packed : (p : Part) (c : Column) (first j y n : ℕ) (b : Bool) → position (in_pack c) p.packs ≡ Some j → first ≡ pack_place p 0
+pub place-packed : (base : ℕ) (p : Part) (c : Column) (first j y n : ℕ) (b : Bool) → position (in_pack c) p.packs ≡ Some j → first ≡ pack_place p 0
     → y ≡ position_or_len (same_column c) (nth p.packs j) → n ≡ length (nth p.packs j) → b ≡ list_any (begins c) p.packs
-    → ◌≡◌ {A = ColumnPlace} (record { buffer = first + j; column = y; columns = n; begins = b }) (place_in p c)
-place-packed p c first j y n b at f ey en eb =
+    → ◌≡◌ {A = ColumnPlace} (record { buffer = base + first + j; column = y; columns = n; begins = b }) (place_in base p c)
+place-packed base p c first j y n b at f ey en eb =
     let there : is_packed p (CellsOf c) ≡ true = position-any (in_pack c) p.packs j at in
     let is : pack_of p c ≡ j = (position-some (in_pack c) p.packs j at).0 in
     rw there
     (four (omega (arith, f, is)) (ey ∙ ap (λ k. position_or_len (same_column c) (nth p.packs k)) (sym is)) (en ∙ ap (λ k. length (nth p.packs k)) (sym is)) eb)
 
-pub place-own : (p : Part) (c : Column) (own : ℕ) (b : Bool) → position (in_pack c) p.packs ≡ None → (is_packed p (CellsOf c) ≡ false → own ≡ own_place p (CellsOf c))
-    → b ≡ list_any (begins c) p.packs → ◌≡◌ {A = ColumnPlace} (record { buffer = own; column = 0; columns = 1; begins = b }) (place_in p c)
-place-own p c own b at own_is eb =
+pub place-own : (base : ℕ) (p : Part) (c : Column) (own : ℕ) (b : Bool) → position (in_pack c) p.packs ≡ None → (is_packed p (CellsOf c) ≡ false → own ≡ own_place p (CellsOf c))
+    → b ≡ list_any (begins c) p.packs → ◌≡◌ {A = ColumnPlace} (record { buffer = base + own; column = 0; columns = 1; begins = b }) (place_in base p c)
+place-own base p c own b at own_is eb =
     let there : is_packed p (CellsOf c) ≡ false = position-none (in_pack c) p.packs at in
-    rw there (four (own_is there) refl refl eb)
+    rw there (four (ap (λ k. base + k) (own_is there)) refl refl eb)
 
 -- the pack with a number
 pub pack-there : {A : Type 0} (f : A → Column) (packs : List (List A)) (j : ℕ) (pack : List A) → j < length packs → pack ≡ get_or packs j pack → map f pack ≡ nth (map (map f) packs) j
 pack-there f packs j pack l is = ap (map f) is ∙ sym (get_or-map (map f) packs j pack [] l)
 
 -- the column is one of those of its buffer
-pub place-inside : (p : Part) (c : Column) → IsInside (place_in p c)
-place-inside p c = go (is_packed p (CellsOf c)) refl
+pub place-inside : (base : ℕ) (p : Part) (c : Column) → IsInside (place_in base p c)
+place-inside base p c = go (is_packed p (CellsOf c)) refl
   where
-    go : (b : Bool) → is_packed p (CellsOf c) ≡ b → IsInside (place_in p c)
+    go : (b : Bool) → is_packed p (CellsOf c) ≡ b → IsInside (place_in base p c)
     go true h =
         let first = found-first (in_pack c) p.packs [] h in
         let at = found-at same_column same_column-true same_column-self c (nth p.packs (pack_of p c)) c (any-Mem same_column same_column-true same_column-self c (nth p.packs (pack_of p c)) first.1) in

@@ -1,12 +1,15 @@
 -- The entries that are read at positions, up to the first at which none can be read.
-use Rattle.std.specs.Prelude.{ℤ, List, [], ◌∷◌, map, slice_get, Bool, if◌then◌else◌, Option, Some, None}
+use Rattle.std.specs.Prelude.{ℕ, ℤ, List, [], ◌∷◌, ◌++◌, drop, length, map, slice_get, Bool, if◌then◌else◌, Option, Some, None}
+use Rattle.std.specs.List.{range_with_len}
 use Rattle.us_format.specs.Lists.{then_do}
 use Rattle.us_format.specs.Matrix.{Entry, Shape, is_zero}
 use Rattle.us_format.specs.Declaration.{Declaration}
 use Rattle.us_format.specs.Program.{plain_entry}
-use Rattle.us_format.specs.Reading.{all_contents}
-use Rattle.us_format.specs.Meaning.{Position, all_positions, value_in, entry_at}
+use Rattle.us_format.specs.Reading.{all_contents, contents}
+use Rattle.us_format.specs.Meaning.{Position, part_values, all_positions, value_in, entry_at}
+use Rattle.us_judge.specs.Format.{part_at}
 use Rattle.us_invert.specs.declared.recovering.Cell.{Cell}
+use Rattle.us_climb.specs.Own.{buffers_before}
 use Rattle.us_climb.specs.declared.found.Position as code
 use Rattle.us_climb.specs.declared.found.Found.{Found}
 use Rattle.us_climb.specs.declared.found.ReadEntries.{ReadEntries}
@@ -38,6 +41,20 @@ is_empty s d bufs at = is_zero (value_in s (slice_get (all_contents d.parts bufs
 abbrev pub read_all : Shape → Declaration → List (List ℤ) → Read Position
 read_all s d bufs = read_keys (is_empty s d bufs) (entry_in s d bufs) (all_positions s 0 (all_contents d.parts bufs))
 
+-- the positions of the part k
+abbrev pub part_positions : Shape → Declaration → List (List ℤ) → ℕ → List Position
+part_positions s d bufs k =
+    let held = contents (part_at d k) (drop (buffers_before d.parts k) bufs) in
+    map (λ x. (k, x)) (range_with_len 0 (length (part_values s (part_at d k) held)))
+
+-- what is read at those of them whose value is not 0
+abbrev pub read_part : Shape → Declaration → List (List ℤ) → ℕ → Read Position
+read_part s d bufs k = read_keys (is_empty s d bufs) (entry_in s d bufs) (part_positions s d bufs k)
+
+-- entries in front of what is read
+abbrev pub prepend : List (Position × Entry) → Read Position → Read Position
+prepend found r = record { found = found ++ r.found; failed = r.failed }
+
 -- ---- what the program reads
 
 abbrev pub plain_position : code.Position → Position
@@ -50,8 +67,12 @@ abbrev pub plain_failed : Option code.Position → Option Position
 plain_failed None = None
 plain_failed (Some p) = Some (plain_position p)
 
+-- the entries that were found, and the position at which reading failed
+abbrev pub found_to : List Found → Option code.Position → Read Position
+found_to found failed = record { found = map plain_found found; failed = plain_failed failed }
+
 abbrev pub plain_read : ReadEntries → Read Position
-plain_read r = record { found = map plain_found r.found.items; failed = plain_failed r.failed }
+plain_read r = found_to r.found.items r.failed
 
 -- the entry with these indices and a value
 abbrev pub entry_of : Option Cell → ℤ → Option Entry

@@ -3,3 +3,4 @@ pub mod Own
 pub mod Entries
 pub mod Readers
 pub mod Parents
+pub mod QueryTables

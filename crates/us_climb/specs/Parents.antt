@@ -3,11 +3,7 @@ use Rattle.std.proofs.Common.{get_or, Vec, Global}
 use Rattle.std.specs.Prelude.{◌≡◌, ℕ, ◌-◌, ◌^◌, ◌<◌, ◌≤◌, ℤ, List, [], ◌∷◌, length, min, nat_lt, nat_le, ◌&&◌, if◌then◌else◌, map, Option, Some, None}
 use Rattle.us_format.specs.Lists.{nth, first_from, nat_of}
 use Rattle.us_format.specs.Climb.{is_parent, parent_of}
-use Rattle.us_format.specs.Matrix.{Shape}
-use Rattle.us_format.specs.Declaration.{Declaration}
-use Rattle.us_judge.specs.Format.{part_at}
 use Rattle.us_climb.specs.declared.layout.LevelLayout.{LevelLayout}
-use Rattle.us_climb.specs.Layout.{layout_from}
 
 -- the number that stands for no parent
 abbrev pub none : ℕ
@@ -39,10 +35,6 @@ abbrev pub AreParents : List LevelLayout → List (List ℕ) → List (List ℤ)
 AreParents ls [] bufs = Unit {0}
 AreParents [] (t ∷ ts) bufs = Unit {0}
 AreParents (l ∷ ls) (t ∷ ts) bufs = IsTable (nth bufs l.starts) t × AreParents ls ts bufs
-
--- the tables are those of the first levels of a part
-abbrev pub AreKnown : Shape → Declaration → List (List ℕ) → List (List ℤ) → Type 0
-AreKnown s d tables bufs = AreParents (layout_from s [] (part_at d 0) 0 (part_at d 0).levels) tables bufs
 
 abbrev pub tables_in : List (Vec ℕ Global) → List (List ℕ)
 tables_in tables = map (λ v. v.items) tables

@@ -18,7 +18,7 @@ pub fn list_at(buffers: &Buffers, number: usize) -> &[i64]
 }
 
 /// The cell with this number, or 0.
-fn cell_of(cells: &[i64], x: usize) -> i64
+pub fn cell_of(cells: &[i64], x: usize) -> i64
     ensures { result ≡ cell cells.now x }
 {
     cells.get(x).copied().unwrap_or(0)

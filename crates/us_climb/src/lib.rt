@@ -5,14 +5,18 @@
 
 mod cells;
 mod climbing;
+mod coordinates;
+mod extents;
 mod found;
 mod layout;
 mod lengths;
 mod packs;
 mod parents;
+mod queries;
 mod reader;
 mod reading;
 
+pub use coordinates::climb;
 pub use found::{Found, Position, ReadEntries};
 pub use lengths::{is_within_limit, misfit};
-pub use reading::{climb, read_entries};
+pub use reading::read_entries;

@@ -4,18 +4,14 @@ ghost use Rattle.std.specs.List.{range_with_len};
 ghost use Rattle.std.proofs.Common.{replicate};
 ghost use Rattle.us_format.specs.Climb.{parent_of};
 ghost use Rattle.us_format.specs.Lists.{cell, nth};
-ghost use Rattle.us_format.specs.Program.{plain_shape};
-ghost use Rattle.us_judge.specs.Views.{declaration_of};
-ghost use Rattle.us_matrix.specs.Map.{IsSide};
 ghost use Rattle.us_climb.specs.Layout.{AreSound, IsInside};
-ghost use Rattle.us_climb.specs.Parents.{AreBelow, AreKnown, AreParents, AreSkips, IsTable, claimed, entry, none, number, place_of, tables_in};
+ghost use Rattle.us_climb.specs.Parents.{AreBelow, AreParents, AreSkips, IsTable, claimed, entry, none, number, place_of, tables_in};
 
 use crate::cells::{column_len, list_at};
 use crate::layout::{Layout, LevelLayout};
 use std::alloc::{AllocError, Global};
 use us_format::Kind;
-use us_judge::Format;
-use us_matrix::{Buffers, Shape};
+use us_matrix::Buffers;
 
 /// The number that stands for no parent in a table.
 const NONE: usize = usize::MAX;
@@ -159,17 +155,14 @@ fn level_tables(
     Ok(tables)
 }
 
-/// The tables of the levels of a format's part.
+/// The tables of the levels of a part.
 pub fn parents_of(
     alloc: Global,
-    format: &Format,
-    shape: Shape,
+    layout: &Layout,
     buffers: &Buffers,
 ) -> Result<Vec<Vec<usize>>, AllocError>
-    requires rows { IsSide shape.rows }
-    requires cols { IsSide shape.cols }
-    ensures { IfOk result (λ v. AreKnown (plain_shape shape) (declaration_of format.now) (tables_in v.items) buffers.now) }
+    requires { AreSound layout.now.levels.items }
+    ensures { IfOk result (λ v. AreParents layout.now.levels.items (tables_in v.items) buffers.now) }
 {
-    let layout = Layout::of(format, shape);
     level_tables(alloc, layout.levels.as_slice(), buffers)
 }

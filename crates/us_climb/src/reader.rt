@@ -1,26 +1,28 @@
 //! What stays the same while the positions of a part are read.
-ghost use Rattle.std.specs.Prelude.{◌≡◌, ◌≤◌, ◌<◌, ◌^◌, [], length};
+ghost use Rattle.std.specs.Prelude.{◌≡◌, ◌-◌, ◌<◌, ◌^◌, true};
 ghost use Rattle.us_format.specs.Program.{plain_shape};
-ghost use Rattle.us_format.specs.Coordinates.{variable_ranges};
+ghost use Rattle.us_format.specs.Reading.{fits};
 ghost use Rattle.us_judge.specs.Format.{part_at};
-ghost use Rattle.us_judge.specs.Views.{declaration_of, plain_part};
+ghost use Rattle.us_judge.specs.Views.{declaration_of};
 ghost use Rattle.us_matrix.specs.Map.{IsSide};
-ghost use Rattle.us_climb.specs.Parents.{AreKnown, tables_in};
-ghost use Rattle.us_climb.specs.Readers.{IsReaderOf};
+ghost use Rattle.us_climb.specs.Layout.{IsLayout};
+ghost use Rattle.us_climb.specs.Parents.{AreParents, tables_in};
+ghost use Rattle.us_climb.specs.Readers.{IsPlaced, IsReady, extents_from};
 
+use crate::extents::{extents_of, tables_at};
 use crate::layout::Layout;
-use arrayvec::ArrayVec;
-use us_decl::Part;
-use us_expr::{Range, VarRanges};
+use us_expr::VarRanges;
 use us_invert::{RecoveryPlan, Tables};
 use us_judge::Format;
 use us_matrix::{Buffers, Shape};
 
-/// The layout of a format's part, the plan of its recovery, and tables of the first levels' parents, for buffers of a matrix
-/// of this shape.
+/// The layout of a part of a format, the plan of its recovery, its tables and extents, and tables of the first levels' parents,
+/// for buffers of a matrix of this shape.
 #[derive(Debug, Drop)]
 pub struct Reader<'a> {
     pub format: &'a Format,
+    /// The number of the part, counted from 1.
+    pub number: usize,
     pub shape: Shape,
     pub plan: &'a RecoveryPlan,
     pub layout: Layout,
@@ -29,55 +31,48 @@ pub struct Reader<'a> {
     pub tables: Tables<'a>,
 }
 
-/// The ranges of the variables of a part without queries: no variable is defined, and each is 0 alone.
-fn ranges_of(part: &Part, shape: Shape) -> VarRanges
-    requires names { length part.now.names ≤ 32 }
-    requires queries { (plain_part part.now).queries ≡ [] }
-    ensures rows { result.shape_rows ≡ shape.rows }
-    ensures cols { result.shape_cols ≡ shape.cols }
-    ensures vars { result.vars.items ≡ variable_ranges (plain_shape shape) [] (plain_part part.now) }
-{
-    let mut vars = ArrayVec::new();
-    for number in 0..part.names.len() {
-        let _ = number;
-        vars.push(Range { lo: 0, hi: 0 });
-    }
-    VarRanges {
-        shape_rows: shape.rows,
-        shape_cols: shape.cols,
-        vars,
-    }
-}
-
 impl<'a> Reader<'a> {
-    /// The layout and the plan for these buffers, with the parents that are known in advance.
+    /// The plan, the tables and the extents of the part with this number, counted from 1, whose first buffer has the number
+    /// `first`, for buffers that fit. The part has this layout, and these parents are known in advance.
     pub fn of(
         format: &'a Format,
+        number: usize,
+        first: usize,
         shape: Shape,
         buffers: &'a Buffers,
+        layout: Layout,
         parents: &'a [Vec<usize>],
     ) -> Reader<'a>
         requires rows { IsSide shape.rows }
         requires cols { IsSide shape.cols }
-        requires parents { AreKnown (plain_shape shape) (declaration_of format.now) (tables_in parents.now) buffers.now }
+        requires fitting { fits (plain_shape shape) (declaration_of format.now) buffers.now ≡ true }
+        requires placed { IsPlaced (declaration_of format.now) number first }
+        requires base { first < 2 ^ 31 }
+        requires laid { IsLayout first (plain_shape shape) (extents_from first buffers.now (part_at (declaration_of format.now) (number - 1)))
+            (part_at (declaration_of format.now) (number - 1)) layout }
+        requires parents { AreParents layout.levels.items (tables_in parents.now) buffers.now }
         ensures format { result.format.now ≡ format.now }
+        ensures number { result.number ≡ number }
         ensures shape { result.shape ≡ shape }
+        ensures layout { result.layout ≡ layout }
         ensures buffers { result.tables.buffers.now ≡ buffers.now }
-        ensures ready { IsReaderOf (plain_shape shape) (declaration_of format.now) buffers.now result }
+        ensures ready { IsReady result }
     {
-        let layout = Layout::of(format, shape);
-        let part = format.first_part();
+        let part = format.part(number);
+        let extents = extents_of(part, first, buffers);
+        let ranges = format.variable_ranges(number, extents.as_slice(), shape.rows, shape.cols);
         Reader {
             format,
+            number,
             shape,
-            plan: format.plan(1),
+            plan: format.plan(number),
             layout,
             parents,
-            ranges: ranges_of(part, shape),
+            ranges,
             tables: Tables {
                 buffers,
-                at: ArrayVec::new(),
-                extents: ArrayVec::new(),
+                at: tables_at(part, first),
+                extents,
             },
         }
     }

@@ -4,6 +4,7 @@ pub mod Reaching
 pub mod Looseness
 pub mod LawfulPacks
 pub mod LawfulDeclarations
+pub mod DefinedOnce
 pub mod Knowing
 pub mod Apart
 pub mod Verdicts
@@ -16,3 +17,7 @@ pub mod ValidExpressions
 pub mod Accepted
 pub mod EntryFormat
 pub mod EachPart
+pub mod NamesBelow
+pub mod VariableRanges
+pub mod NoExtents
+pub mod LevelEnds

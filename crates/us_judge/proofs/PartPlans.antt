@@ -10,12 +10,19 @@ use Rattle.us_judge.specs.Format.{part_at}
 use Rattle.us_judge.specs.Plans.{IsPlannable, plan_for}
 use Rattle.us_judge.specs.Views.{declaration_of}
 use Rattle.us_judge.proofs.Accepted.{accepted-keeps}
-use Rattle.us_judge.proofs.LawfulDeclarations.{accepted-levels, part-queries}
+use Rattle.us_judge.proofs.LawfulDeclarations.{few-levels}
+use Rattle.us_judge.proofs.Valid.{queries-valid}
+use Rattle.us_judge.proofs.ValidExpressions.{arguments-valid, small-valid}
 
 pub accepted-plannable : (x : Declared) → IsValid x → first_refusal (declaration_of x) ≡ None → All IsPlannable (declaration_of x).parts
-accepted-plannable x v e = λ k d h.
-    let levels = accepted-levels x v e k d h in
-    record { few = levels.few; small = levels.small; queries = part-queries (get_or (declaration_of x).parts k d) (accepted-keeps (declaration_of x) e k d h) }
+accepted-plannable x v e = λ k d h. record {
+  few = few-levels (get_or (declaration_of x).parts k d) (accepted-keeps (declaration_of x) e k d h);
+  asked = queries-valid x v k d h;
+  small = record {
+    levels_are = λ j t l. (small-valid x v k d h j t l).nodes;
+    arguments_are = λ j q l. (arguments-valid x v k d h j q l).nodes;
+  };
+}
 
 -- the plan of the part k
 pub kept_plan : (d : Declaration) (kept : List Steps) (k : ℕ) (p : Steps) → kept ≡ map plan_for d.parts → k < length d.parts → p ≡ get_or kept k p → p ≡ plan_for (part_at d k)

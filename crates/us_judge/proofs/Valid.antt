@@ -17,7 +17,7 @@ use Rattle.us_decl.specs.declared.decl.Decl.{Decl}
 use Rattle.us_decl.specs.Grammar.{Comma, Only, And, Run, Empty, Then, Whole, Split, blocks_of}
 use Rattle.us_decl.specs.Grammar as grammar
 use Rattle.us_decl.specs.Limits.{count, count_run, all_run, fits_list, fits_numbers, fits_queries, fits_levels, fits_packs, fits_part, fits_block, fits_blocks, fits_head, fits_body, fits_name, fits_names, fits_number}
-use Rattle.us_decl.specs.Names.{names_head}
+use Rattle.us_decl.specs.Names.{names_head, names_part}
 use Rattle.us_decl.specs.Declares.{comma_items, run_items, maybe_items, IsValid, Declared, declared, DeclaredPart, DeclaredBody, Undivided, Divided, whole_part, parts_of, body_of}
 use Rattle.us_decl.specs.Declares as text
 use Rattle.us_decl.specs.Views.{query_view, part_view, body_view, decl_view}
@@ -150,6 +150,10 @@ each_body P each n (Split h p q) e =
 
 pub each-part : (P : Part → Type 0) → ((p : grammar.Part) → fits_part p ≡ true → P (part_of (whole_part p))) → (d : Declared) → IsValid d → All P (declaration_of d).parts
 each-part P each d v = subst (λ (x : Declared). All P (declaration_of x).parts) v.is (each_body P each v.text.name v.text.body (right_of (fits_name v.text.name) _ v.within))
+
+-- no part of a valid declaration has more than 16 queries
+pub queries-valid : (d : Declared) → IsValid d → All (λ p. length p.queries ≤ 16) (declaration_of d).parts
+queries-valid d v = each-part (λ p. length p.queries ≤ 16) (λ p h. (short_part (names_part p) p h).queries) d v
 
 short_parts : (h : grammar.Head) (p q : grammar.Part) → fits_head h ≡ true → fits_part p ≡ true → fits_part q ≡ true → AreShort (map part_of (parts_of (blocks_of h p) q))
 short_parts h p q f g k =

@@ -9,11 +9,11 @@ use Rattle.us_expr.specs.Value.{IsWithin}
 use Rattle.us_decl.specs.Grammar.{Comma, Only, And, Expr, One, Plus, Less, Term, Just, Over, Rest, Factor, Row, Col, Named, Num, Group}
 use Rattle.us_decl.specs.Grammar as grammar
 use Rattle.us_decl.specs.Names.{number_of, names_part}
-use Rattle.us_decl.specs.Limits.{nodes, nodes_term, nodes_factor, all, all_levels, fits_nodes, fits_number, fits_expr, fits_term, fits_factor, fits_whole, fits_queries, fits_levels, fits_part}
-use Rattle.us_decl.specs.Declares.{tree_expr, tree_term, tree_factor, comma_items, maybe_items, IsValid, Declared}
+use Rattle.us_decl.specs.Limits.{nodes, nodes_term, nodes_factor, all, all_levels, all_run, fits_name, fits_nodes, fits_number, fits_expr, fits_term, fits_factor, fits_whole, fits_query, fits_queries, fits_levels, fits_part}
+use Rattle.us_decl.specs.Declares.{tree_expr, tree_term, tree_factor, comma_items, run_items, maybe_items, whole_part, IsValid, Declared}
 use Rattle.us_decl.specs.Declares as text
-use Rattle.us_format.specs.Declaration.{Part}
-use Rattle.us_judge.specs.Views.{part_of, declaration_of}
+use Rattle.us_format.specs.Declaration.{Query, Part, argument}
+use Rattle.us_judge.specs.Views.{part_of, plain_query, declaration_of}
 use Rattle.us_judge.proofs.Valid.{each-part}
 
 left_of : (a b : Bool) → (a && b) ≡ true → a ≡ true
@@ -124,3 +124,34 @@ small-part ns p h = small-levels ns p.levels (left_of (all_levels p.levels) _ (l
 -- the levels of a valid declaration are small
 pub small-valid : (d : Declared) → IsValid d → All HasSmallLevels (declaration_of d).parts
 small-valid d v = each-part HasSmallLevels (λ p h. small-part (names_part p) p h) d v
+
+-- ---- arguments of queries
+
+-- the argument of a query is small
+abbrev pub HasSmallArgument : Query → Type 0
+HasSmallArgument q = IsSmall (argument q)
+
+small-query : (ns : List (List ℕ)) (q : grammar.Query) → fits_query q ≡ true → HasSmallArgument (plain_query (text.query_of ns q))
+small-query ns (grammar.Single grammar.Sum v e) h = small-tree ns e (right_of (fits_name v) (fits_whole e) h)
+small-query ns (grammar.Single grammar.Enumerate v e) h = small-tree ns e (right_of (fits_name v) (fits_whole e) h)
+small-query ns (grammar.Single grammar.Reorder v e) h = small-tree ns e (right_of (fits_name v) (fits_whole e) h)
+small-query ns (grammar.Lanes v w e k) h = small-tree ns e (left_of (fits_whole e) _ (right_of (fits_name w) _ (right_of (fits_name v) _ h)))
+
+small-run : (ns : List (List ℕ)) (qs : grammar.Run grammar.Query) → all_run fits_query qs ≡ true → All (λ q. HasSmallArgument (plain_query (text.query_of ns q))) (run_items qs)
+small-run ns grammar.Empty h = All-nil (λ q. HasSmallArgument (plain_query (text.query_of ns q)))
+small-run ns (grammar.Then qs q) h =
+    All-append (λ q. HasSmallArgument (plain_query (text.query_of ns q))) (run_items qs) (q ∷ []) (small-run ns qs (left_of (all_run fits_query qs) (fits_query q) h))
+    (All-cons (λ q. HasSmallArgument (plain_query (text.query_of ns q))) q [] (small-query ns q (right_of (all_run fits_query qs) (fits_query q) h))
+    (All-nil (λ q. HasSmallArgument (plain_query (text.query_of ns q)))))
+
+small-queries : (ns : List (List ℕ)) (qs : grammar.Run grammar.Query) → fits_queries qs ≡ true → All HasSmallArgument (map plain_query (map (text.query_of ns) (run_items qs)))
+small-queries ns qs h =
+    All-map HasSmallArgument plain_query (map (text.query_of ns) (run_items qs))
+    (All-map (λ q. HasSmallArgument (plain_query q)) (text.query_of ns) (run_items qs) (small-run ns qs (left_of (all_run fits_query qs) _ h)))
+
+small-asked : (p : grammar.Part) → fits_part p ≡ true → All HasSmallArgument (part_of (whole_part p)).queries
+small-asked p h = small-queries (names_part p) p.queries (left_of (fits_queries p.queries) _ h)
+
+-- the arguments of the queries of a valid declaration's parts are small
+pub arguments-valid : (d : Declared) → IsValid d → All (λ p. All HasSmallArgument p.queries) (declaration_of d).parts
+arguments-valid d v = each-part (λ p. All HasSmallArgument p.queries) small-asked d v

@@ -18,11 +18,6 @@ refusals = record {
   half_column = refl;
   full_in_pack = refl;
   ordered_head = refl;
-  counted = refl;
-  ordered = refl;
-  scheduled = refl;
-  divided_by_count = refl;
-  divided_by_sum = refl;
 }
 
 pub acceptances : WorkedAcceptances
@@ -35,6 +30,11 @@ acceptances = record {
   blocks = refl;
   diagonals = refl;
   packed_entries = refl;
+  counted = refl;
+  ordered = refl;
+  scheduled = refl;
+  divided_by_count = refl;
+  divided_by_sum = refl;
   entry_format = refl;
 }
 

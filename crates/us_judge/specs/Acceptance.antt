@@ -183,15 +183,10 @@ unknown_column p = unless (is_known p.levels p.queries (length p.levels) ColInde
 abbrev pub bad_pack : Part → Option ℕ
 bad_pack p = first_failing (is_lawful_pack p) [] (first_pack p) p.packs
 
--- until queries are built: there is none
-abbrev pub some_query : List Query → Option ℕ
-some_query [] = None
-some_query (q ∷ qs) = Some 0
-
 abbrev pub part_rules : List (Rule Part)
 part_rules =
     (1, bad_count) ∷ (2, bad_name) ∷ (3, λ p. bad_argument p.queries) ∷ (4, λ p. bad_lanes p.queries) ∷ (5, bad_sum) ∷ (6, bad_whole) ∷ (7, bad_number)
-    ∷ (8, bad_merge) ∷ (9, bad_order) ∷ (10, unknown_row) ∷ (11, unknown_column) ∷ (12, bad_pack) ∷ (14, λ p. some_query p.queries) ∷ []
+    ∷ (8, bad_merge) ∷ (9, bad_order) ∷ (10, unknown_row) ∷ (11, unknown_column) ∷ (12, bad_pack) ∷ []
 
 -- ---- the head
 
@@ -208,8 +203,7 @@ abbrev pub bad_head_query : Declaration → Option ℕ
 bad_head_query d = first_failing (λ _ q. is_count q) [] 0 d.head
 
 abbrev pub head_rules : List (Rule Declaration)
-head_rules =
-    (2, bad_head_name) ∷ (3, λ d. bad_argument d.head) ∷ (4, λ d. bad_lanes d.head) ∷ (13, bad_head_query) ∷ (14, λ d. some_query d.head) ∷ []
+head_rules = (2, bad_head_name) ∷ (3, λ d. bad_argument d.head) ∷ (4, λ d. bad_lanes d.head) ∷ (13, bad_head_query) ∷ []
 
 -- ---- refusals
 

@@ -5,7 +5,7 @@ use Rattle.us_format.specs.Declaration.{Part}
 use Rattle.us_judge.specs.declared.refusal.Refusal.{Refusal}
 use Rattle.us_judge.specs.declared.refusal.JudgeFault.{JudgeFault}
 use Rattle.us_judge.specs.declared.refusal.JudgeFault.TheVariants.{Refused, Memory}
-use Rattle.us_judge.specs.Acceptance.{Rule, bad_count, bad_name, bad_argument, bad_lanes, bad_sum, bad_whole, bad_number, bad_merge, bad_order, unknown_row, unknown_column, bad_pack, some_query}
+use Rattle.us_judge.specs.Acceptance.{Rule, bad_count, bad_name, bad_argument, bad_lanes, bad_sum, bad_whole, bad_number, bad_merge, bad_order, unknown_row, unknown_column, bad_pack}
 
 -- a refusal is the first; want of memory may come anywhere
 abbrev pub Explains : JudgeFault → Option Refusal → Type 0
@@ -26,4 +26,4 @@ abbrev pub known_rules : List (Rule Part)
 known_rules = (10, unknown_row) ∷ (11, unknown_column) ∷ []
 
 abbrev pub late_rules : List (Rule Part)
-late_rules = (12, bad_pack) ∷ (14, λ p. some_query p.queries) ∷ []
+late_rules = (12, bad_pack) ∷ []

@@ -55,12 +55,6 @@ pub record WorkedRefusals : Type 0 where
   pub full_in_pack : first_refusal (stored (RowIndex ∷ ColIndex ∷ []) (1 ∷ []) (1 ∷ []) ((LevelColumn 0 ∷ LevelColumn 1 ∷ []) ∷ [])) ≡ refusal 12 1 4
   -- let p = reorder(i) part when p < 2 { map (i, j) trim 0, 1 } rest { map (i, j) trim 0, 1 }
   pub ordered_head : first_refusal (split 1 (Reorder 0 RowIndex ∷ []) 0 coo_part) ≡ refusal 13 0 0
-  -- declarations with queries
-  pub counted : first_refusal ell ≡ refusal 14 1 0
-  pub ordered : first_refusal jds ≡ refusal 14 1 0
-  pub scheduled : first_refusal cisr ≡ refusal 14 1 0
-  pub divided_by_count : first_refusal hyb ≡ refusal 14 0 0
-  pub divided_by_sum : first_refusal heavy ≡ refusal 14 0 0
 
 -- declarations that break no rule
 pub record WorkedAcceptances : Type 0 where
@@ -73,6 +67,11 @@ pub record WorkedAcceptances : Type 0 where
   pub blocks : first_refusal bcsr ≡ None
   pub diagonals : first_refusal dia ≡ None
   pub packed_entries : first_refusal aos ≡ None
+  pub counted : first_refusal ell ≡ None
+  pub ordered : first_refusal jds ≡ None
+  pub scheduled : first_refusal cisr ≡ None
+  pub divided_by_count : first_refusal hyb ≡ None
+  pub divided_by_sum : first_refusal heavy ≡ None
   pub entry_format : first_refusal entry ≡ None
 
 -- the first part decides, then the lowest rule, then the first item

@@ -124,6 +124,26 @@ fn plans_of_accepted(alloc: Global, decl: &Decl) -> Result<Items<RecoveryPlan>, 
     plans_of(alloc, &decl.body)
 }
 
+/// What is made of an accepted declaration: the kinds of its levels, and the plans of its parts.
+#[derive(Drop)]
+struct Judgement {
+    kinds: Items<Kinds>,
+    plans: Items<RecoveryPlan>,
+}
+
+/// The kinds and the plans of a valid declaration, if it breaks no rule.
+fn judge_all(alloc: Global, decl: &Decl) -> Result<Judgement, JudgeFault>
+    requires { IsValid (decl_view decl.now) }
+    ensures kinds { IfOk result (λ made. made.kinds ≡ map kinds_of (declaration_of (decl_view decl.now)).parts) }
+    ensures plans { IfOk result (λ made. made.plans ≡ map plan_for (declaration_of (decl_view decl.now)).parts) }
+    ensures accepted { OnOk result (first_refusal (declaration_of (decl_view decl.now)) ≡ None) }
+    ensures refused { IfErr result (λ fault. Explains fault (first_refusal (declaration_of (decl_view decl.now)))) }
+{
+    let kinds = judge_declaration(alloc, decl)?;
+    let plans = plans_of_accepted(alloc, decl)?;
+    Ok(Judgement { kinds, plans })
+}
+
 /// The format of a valid declaration, if it breaks no rule; else the first part that breaks one, the lowest rule that
 /// it breaks and the first item that breaks this rule. There is no other way to make a format.
 pub fn judge(alloc: Global, decl: Decl) -> Result<Format, JudgeFault>
@@ -132,9 +152,10 @@ pub fn judge(alloc: Global, decl: Decl) -> Result<Format, JudgeFault>
     ensures accepted { OnOk result (first_refusal (declaration_of (decl_view decl)) ≡ None) }
     ensures refused { IfErr result (λ fault. Explains fault (first_refusal (declaration_of (decl_view decl)))) }
 {
-    let kinds = judge_declaration(alloc, &decl)?;
-    let plans = plans_of_accepted(alloc, &decl)?;
-    Ok(Format { decl, kinds, plans })
+    match judge_all(alloc, &decl) {
+        Ok(Judgement { kinds, plans }) => Ok(Format { decl, kinds, plans }),
+        Err(fault) => Err(fault),
+    }
 }
 
 /// How many buffers these parts have, whose levels have these kinds.
@@ -247,6 +268,16 @@ impl Format {
         ensures { result.now ≡ plan_for (part_at (declaration_of self.now) (part - 1)) }
     {
         &self.plans.as_slice()[part - 1]
+    }
+
+    /// How many buffers a part has, the parts being counted from 1.
+    pub fn part_buffers(&self, part: usize) -> usize
+        requires from_one { 1 ≤ part }
+        requires part { part ≤ length (declaration_of self.now).parts }
+        ensures count { result ≡ buffer_count (part_at (declaration_of self.now) (part - 1)) }
+        ensures few { result ≤ 81 }
+    {
+        buffer_count(self.part(part), self.kinds(part))
     }
 
     /// How many buffers the format has.

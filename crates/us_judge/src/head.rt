@@ -7,7 +7,7 @@ ghost use Rattle.us_judge.specs.Views.{plain_head};
 
 use crate::part::Verdict;
 use crate::refusal::Refusal;
-use crate::rules::{bad_argument, bad_lanes, first_misdefined, first_no_count, some_query};
+use crate::rules::{bad_argument, bad_lanes, first_misdefined, first_no_count};
 use crate::variables::{Class, is_member};
 use us_decl::Head;
 use us_expr::{Cond, Query};
@@ -62,7 +62,6 @@ pub fn head_refusal(head: &Head) -> Option<Refusal>
         .rule(2, bad_head_name(head))
         .rule(3, bad_argument(queries))
         .rule(4, bad_lanes(queries))
-        .rule(13, first_no_count(queries))
-        .rule(14, some_query(queries));
+        .rule(13, first_no_count(queries));
     verdict.refusal
 }

@@ -20,6 +20,7 @@ mod variables;
 pub use buffers::{is_packed, own_of_level};
 pub use entry::entry_format;
 pub use format::{Format, judge};
-pub use laws::{accepted_is_lawful, worked_refusals};
+pub use laws::{accepted_is_lawful, bounds_hold, worked_refusals};
+pub use level_ranges::LevelBounds;
 pub use refusal::{JudgeFault, Refusal};
 pub use us_format::Kind;

@@ -14,7 +14,7 @@ use crate::packs::bad_pack;
 use crate::refusal::{JudgeFault, Refusal};
 use crate::rules::{
     bad_argument, bad_count, bad_lanes, bad_merge, bad_name, bad_number, bad_order, bad_sum,
-    bad_whole, some_query, unless,
+    bad_whole, unless,
 };
 use std::alloc::Global;
 use us_decl::Part;
@@ -89,9 +89,7 @@ fn late_refusal(part: &Part, kinds: &Kinds, number: u8) -> Option<Refusal>
     requires kinds { kinds.now ≡ kinds_of (plain_part part.now) }
     ensures { result ≡ refusal_by late_rules number (plain_part part.now) }
 {
-    let verdict = Verdict::on(number)
-        .rule(12, bad_pack(part, kinds.as_slice()))
-        .rule(14, some_query(part.queries.as_slice()));
+    let verdict = Verdict::on(number).rule(12, bad_pack(part, kinds.as_slice()));
     verdict.refusal
 }
 

@@ -4,7 +4,7 @@ ghost use Rattle.std.specs.List.{list_all};
 ghost use Rattle.us_format.specs.Lists.{among, all_different};
 ghost use Rattle.us_expr.specs.Tree.{tree};
 ghost use Rattle.us_format.specs.Declaration.{query_of, argument, defines, defined};
-ghost use Rattle.us_judge.specs.Acceptance.{unless, first_failing, first_level, first_trim, first_merge, defines_new, is_defined_once, has_lawful_lanes, is_count, some_query, bad_count, bad_name, bad_argument, bad_lanes, bad_sum, bad_whole, bad_number, bad_merge, bad_order};
+ghost use Rattle.us_judge.specs.Acceptance.{unless, first_failing, first_level, first_trim, first_merge, defines_new, is_defined_once, has_lawful_lanes, is_count, bad_count, bad_name, bad_argument, bad_lanes, bad_sum, bad_whole, bad_number, bad_merge, bad_order};
 ghost use Rattle.us_format.specs.Kinds.{is_loose};
 ghost use Rattle.us_judge.specs.Variables.{bad_level, is_lawful_level};
 ghost use Rattle.us_judge.specs.Views.{plain_part};
@@ -128,13 +128,6 @@ pub fn first_no_count(queries: &[Query]) -> Option<u32>
         }
     }
     None
-}
-
-/// The first query.
-pub fn some_query(queries: &[Query]) -> Option<u32>
-    ensures { result ≡ some_query (map query_of queries.now) }
-{
-    unless(queries.is_empty())
 }
 
 /// The first level that is not lawful as to the variables of a class, the first level having the number `first`.

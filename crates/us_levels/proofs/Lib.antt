@@ -1,9 +1,14 @@
-pub mod OnePart
-pub mod Built
+pub mod Entries
 pub mod Unlike
 pub mod Owning
 pub mod Behind
 pub mod Agreeing
 pub mod Walked
 pub mod Numbers
+pub mod Asked
+pub mod Partwise
 pub mod Starting
+pub mod Acceptable
+pub mod Sizes
+pub mod SmallExtents
+pub mod Joined

@@ -1,21 +1,25 @@
 -- Buffers that are within the limit mean few entries.
-use Rattle.std.proofs.Common.{◌≡◌, ℕ, zero, suc, ◌+◌, ◌*◌, ◌/◌, ◌≤◌, ℤ, List, [], ◌∷◌, ◌++◌, map, length, drop, Bool, true, false, cond, sym, refl, ap, ◌∙◌, subst, arith, Option, Some, None, Result, Ok, Err}
-use Rattle.std.specs.List.{position_or_len, range_with_len, sum, sum_by}
+use Rattle.std.proofs.Common.{◌≡◌, ℕ, zero, suc, ◌+◌, ◌*◌, ◌/◌, ◌<◌, ◌≤◌, ℤ, List, [], ◌∷◌, ◌++◌, map, length, drop, Bool, true, false, cond, not, sym, refl, ap, ◌∙◌, inl, arith, Option, Some, None, Result, Ok, Err}
+use Rattle.std.specs.List.{position_or_len, range_with_len, sum_by}
 use Rattle.std.proofs.Math.Nat.{div-le_self}
-use Rattle.std.proofs.lemmas.List.{append-nil, length-map}
+use Rattle.std.proofs.lemmas.List.{length-append, length-map}
 use Rattle.std.proofs.lemmas.List.FromFn.{length-map-range_with_len, length-range_with_len}
 use Rattle.std.proofs.lemmas.List.Sums.{sum_by-cons}
 use Rattle.us_expr.specs.Tree.{Tree}
 use Rattle.us_format.specs.declared.Kind.{Kind}
 use Rattle.us_format.specs.declared.Kind.TheVariants.{Full, Compressed, Listed, Slot}
 use Rattle.us_format.specs.Climb.{values, width}
-use Rattle.us_format.specs.Declaration.{Column, ValueColumn, Part, Declaration, same_column}
+use Rattle.us_format.specs.Declaration.{ValueColumn, Part, Declaration, same_column}
 use Rattle.us_format.specs.Kinds.{kind, levels_from}
 use Rattle.us_format.specs.Lists.{cell, nth, then_do}
 use Rattle.us_format.specs.Matrix.{Entry, Shape, earlier, put}
 use Rattle.us_format.specs.Meaning.{all_positions, collect, collected, entries_of, go_on, Position, meaning, part_values}
-use Rattle.us_format.specs.Packs.{CellsOf, Piece, column_from, is_packed, level_pieces, pieces_from}
-use Rattle.us_format.specs.Reading.{all_contents, all_counts_in, cells_in, contents, fits, limit, own_place, pack_of, pack_place, packed_cells, part_counts_in, size_in}
+use Rattle.us_format.specs.Packs.{CellsOf, Piece, column_from, in_pack, is_packed, level_pieces, own_pieces, pieces, pieces_from, same_piece}
+use Rattle.us_format.specs.Reading.{all_contents, all_counts_in, buffer_count, cells_in, contents, fits, limit, own_place, pack_of, pack_place, packed_cells, size_in}
+use Rattle.us_format.proofs.Members.{Mem-right}
+use Rattle.us_format.proofs.Order.{Mem, Mem-filter}
+use Rattle.us_format.proofs.Pieces.{found-at, same_piece-self, same_piece-true}
+use Rattle.us_format.proofs.Queries.{found-first}
 
 -- ---- entries
 
@@ -57,7 +61,7 @@ values-are s extents p f k (e ∷ es) = ap (values (levels_from s extents p (suc
     behind Listed = refl
     behind Slot = refl
 
-nth-few : (bufs : List (List ℤ)) (k : ℕ) → length (nth bufs k) ≤ sum_by length bufs
+pub nth-few : (bufs : List (List ℤ)) (k : ℕ) → length (nth bufs k) ≤ sum_by length bufs
 nth-few [] k = none k
   where
     none : (k : ℕ) → length (nth {A = ℤ} [] k) ≤ 0
@@ -65,44 +69,79 @@ nth-few [] k = none k
 nth-few (b ∷ bufs) zero = omega (arith, sum_by-cons (λ (l : List ℤ). length l) b bufs)
 nth-few (b ∷ bufs) (suc k) = omega (arith, sum_by-cons (λ (l : List ℤ). length l) b bufs, nth-few bufs k)
 
+pub drop-few : (n : ℕ) (bufs : List (List ℤ)) → sum_by length (drop n bufs) ≤ sum_by length bufs
+drop-few zero bufs = omega arith
+drop-few (suc n) [] = omega arith
+drop-few (suc n) (b ∷ bufs) = omega (arith, sum_by-cons (λ (l : List ℤ). length l) b bufs, drop-few n bufs)
+
+-- one of the first n lists, and those behind them
+nth-first : (n : ℕ) (bufs : List (List ℤ)) (k : ℕ) → k < n → length (nth bufs k) + sum_by length (drop n bufs) ≤ sum_by length bufs
+nth-first zero bufs k h = absurd (omega (arith, h))
+nth-first (suc n) [] k h = omega (arith, nth-few [] k)
+nth-first (suc n) (b ∷ bufs) zero h = omega (arith, sum_by-cons (λ (l : List ℤ). length l) b bufs, drop-few n bufs)
+nth-first (suc n) (b ∷ bufs) (suc k) h = omega (arith, sum_by-cons (λ (l : List ℤ). length l) b bufs, nth-first n bufs k (omega (arith, h)))
+
 column-few : (n y : ℕ) (cells : List ℤ) → length (column_from n y cells) ≤ length cells
 column-few n y cells = omega (arith, length-map-range_with_len (λ x. cell cells (x * n + y)) 0 (length cells / n), div-le_self (length cells) n)
 
-cells-few : (p : Part) (bufs : List (List ℤ)) (c : Column) → length (cells_in p bufs (CellsOf c)) ≤ sum_by length bufs
-cells-few p bufs c = go (is_packed p (CellsOf c))
+value-there : (p : Part) (k : ℕ) (es : List Tree) → Mem (CellsOf ValueColumn) (pieces_from p k es)
+value-there p k [] = inl refl
+value-there p k (e ∷ es) = Mem-right (CellsOf ValueColumn) (level_pieces k (kind p k)) (pieces_from p (suc k) es) (value-there p (suc k) es)
+
+-- the values stand in a buffer of the part
+values-few : (p : Part) (bufs : List (List ℤ)) → length (cells_in p bufs (CellsOf ValueColumn)) + sum_by length (drop (buffer_count p) bufs) ≤ sum_by length bufs
+values-few p bufs = go (is_packed p (CellsOf ValueColumn)) refl
   where
-    go : (b : Bool) → length (cond b (packed_cells p bufs (pack_of p c) c) (nth bufs (own_place p (CellsOf c)))) ≤ sum_by length bufs
-    go false = nth-few bufs (own_place p (CellsOf c))
-    go true =
-        omega (arith, column-few (length (nth p.packs (pack_of p c))) (position_or_len (same_column c) (nth p.packs (pack_of p c))) (nth bufs (pack_place p (pack_of p c))), nth-few bufs (pack_place p (pack_of p c)))
+    x : Piece
+    x = CellsOf ValueColumn
+
+    go : (b : Bool) → is_packed p (CellsOf ValueColumn) ≡ b
+        → length (cond b (packed_cells p bufs (pack_of p ValueColumn) ValueColumn) (nth bufs (own_place p (CellsOf ValueColumn)))) + sum_by length (drop (buffer_count p) bufs) ≤ sum_by length bufs
+    go false e =
+        let f = found-at same_piece same_piece-true same_piece-self x (own_pieces p) x (Mem-filter (λ y. not (is_packed p y)) x (pieces p) (value-there p 0 p.levels) (ap not e)) in
+        nth-first (buffer_count p) bufs (own_place p x) (omega (arith, f.0))
+    go true e =
+        let f = found-first (in_pack ValueColumn) p.packs [] e in
+        omega (
+          arith,
+          column-few (length (nth p.packs (pack_of p ValueColumn))) (position_or_len (same_column ValueColumn) (nth p.packs (pack_of p ValueColumn))) (nth bufs (pack_place p (pack_of p ValueColumn))),
+          nth-first (buffer_count p) bufs (pack_place p (pack_of p ValueColumn)) (omega (arith, f.0)),
+        )
 
 abbrev place : ℕ → ℕ → Position
 place k y = (k, y)
 
 -- as many positions as values
-positions-long : (n : ℕ) → length (map (place 0) (range_with_len 0 n) ++ []) ≡ n
-positions-long n = ap length (append-nil (map (place 0) (range_with_len 0 n))) ∙ length-map (range_with_len 0 n) (place 0) ∙ length-range_with_len 0 n
+positions-long : (k n : ℕ) → length (map (place k) (range_with_len 0 n)) ≡ n
+positions-long k n = length-map (range_with_len 0 n) (place k) ∙ length-range_with_len 0 n
 
--- ---- a declaration of one part
+-- no more positions of all parts than cells
+positions-few : (s : Shape) (k : ℕ) (ps : List Part) (bufs : List (List ℤ)) → length (all_positions s k (all_contents ps bufs)) ≤ sum_by length bufs
+positions-few s k [] bufs = omega arith
+positions-few s k (p ∷ ps) bufs =
+    let v : part_values s p (contents p bufs) ≡ cells_in p bufs (CellsOf ValueColumn) = values-are s (contents p bufs).extents p (cells_in p bufs) 0 p.levels in
+    omega (
+      arith,
+      length-append (map (place k) (range_with_len 0 (length (part_values s p (contents p bufs))))) (all_positions s (suc k) (all_contents ps (drop (buffer_count p) bufs))),
+      positions-long k (length (part_values s p (contents p bufs))),
+      ap length v,
+      values-few p bufs,
+      positions-few s (suc k) ps (drop (buffer_count p) bufs),
+    )
 
-module _ (s : Shape) (d : Declaration) (m : List Entry) (bufs : List (List ℤ)) (p : Part) (one : d.parts ≡ p ∷ []) (small : size_in s d bufs ≤ limit) where
-  added : sum_by length bufs + (sum (part_counts_in s p bufs) + 0) ≤ limit
-  added = subst (λ (ps : List Part). sum_by length bufs + all_counts_in s ps bufs ≤ limit) one small
+-- ---- a declaration
 
-  pub few-positions : sum (part_counts_in s p bufs) ≤ limit
-  few-positions = omega (arith, added)
+module _ (s : Shape) (d : Declaration) (m : List Entry) (bufs : List (List ℤ)) (small : size_in s d bufs ≤ limit) where
+  pub few-cells : sum_by length bufs ≤ limit
+  few-cells = omega (arith, small)
 
-  positions-few : length (all_positions s 0 ((p, contents p bufs) ∷ [])) ≤ sum_by length bufs
-  positions-few =
-      let v : part_values s p (contents p bufs) ≡ cells_in p bufs (CellsOf ValueColumn) = values-are s (contents p bufs).extents p (cells_in p bufs) 0 p.levels in
-      omega (arith, positions-long (length (part_values s p (contents p bufs))), ap length v, cells-few p bufs ValueColumn)
+  pub few-positions : all_counts_in s d.parts bufs ≤ limit
+  few-positions = omega (arith, small)
 
   pub few-entries : meaning s d bufs ≡ Some m → length m ≤ limit
   few-entries h =
-      let keys : length (all_positions s 0 (all_contents d.parts bufs)) ≤ sum_by length bufs =
-      subst (λ (ps : List Part). length (all_positions s 0 (all_contents ps bufs)) ≤ sum_by length bufs) (sym one) positions-few in
       let q : collected s d bufs ≡ Ok m = found (fits s d bufs) (collected s d bufs) h in
-      omega (arith, collect-few _ _ (all_positions s 0 (all_contents d.parts bufs)) [] m q, keys, added)
+      omega (arith, collect-few _ _ (all_positions s 0 (all_contents d.parts bufs)) [] m q, positions-few s 0 d.parts bufs, small)
     where
       found : (b : Bool) (r : Result (List Entry) Position) → cond b (entries_of r) None ≡ Some m → r ≡ Ok m
       found false r e = absurd cc

@@ -83,25 +83,25 @@ module _ (p : Part) where
   -- ---- a walk through the lists
 
   -- what stands before the list k, where the lists before `first` don't differ
-  pub record AreOwn (xs : List Piece) (cs bufs : List (List ℤ)) (first k place : ℕ) : Type 0 where
-    pub counted : place ≡ length (own_lists p xs (take k cs))
-    pub same : lists_difference 0 (own_lists p xs (take first cs)) bufs ≡ None → lists_difference 0 (own_lists p xs (take k cs)) bufs ≡ None
+  pub record AreOwn (base : ℕ) (xs : List Piece) (cs bufs : List (List ℤ)) (first k place : ℕ) : Type 0 where
+    pub counted : place ≡ base + length (own_lists p xs (take k cs))
+    pub same : lists_difference base (own_lists p xs (take first cs)) bufs ≡ None → lists_difference base (own_lists p xs (take k cs)) bufs ≡ None
 
-  module _ (xs : List Piece) (cs bufs : List (List ℤ)) (first k place : ℕ) (d : Piece) (h : k < length cs) (l : k < length xs) (o : AreOwn xs cs bufs first k place) where
-    pub own-passed : is_packed p (get_or xs k d) ≡ true → AreOwn xs cs bufs first (k + 1) place
+  module _ (base : ℕ) (xs : List Piece) (cs bufs : List (List ℤ)) (first k place : ℕ) (d : Piece) (h : k < length cs) (l : k < length xs) (o : AreOwn base xs cs bufs first k place) where
+    pub own-passed : is_packed p (get_or xs k d) ≡ true → AreOwn base xs cs bufs first (k + 1) place
     own-passed b =
         let e : own_lists p xs (take (k + 1) cs) ≡ own_lists p xs (take k cs) =
         own-more k xs cs d h l ∙ ap (λ (b : Bool). own_lists p xs (take k cs) ++ own_one b (get_or cs k [])) b ∙ append-nil (own_lists p xs (take k cs)) in
-        record { counted = o.counted ∙ ap length (sym e); same = λ n. ap (λ (ls : List (List ℤ)). lists_difference 0 ls bufs) e ∙ o.same n }
+        record { counted = omega (arith, o.counted, ap length e); same = λ n. ap (λ (ls : List (List ℤ)). lists_difference base ls bufs) e ∙ o.same n }
 
     module _ (b : is_packed p (get_or xs k d) ≡ false) (found : Option Difference) (f : found ≡ list_difference place (get_or cs k []) (nth bufs place)) where
       longer : own_lists p xs (take (k + 1) cs) ≡ own_lists p xs (take k cs) ++ get_or cs k [] ∷ []
       longer = own-more k xs cs d h l ∙ ap (λ (b : Bool). own_lists p xs (take k cs) ++ own_one b (get_or cs k [])) b
 
-      next : lists_difference 0 (own_lists p xs (take first cs)) bufs ≡ None → lists_difference 0 (own_lists p xs (take (k + 1) cs)) bufs ≡ found
+      next : lists_difference base (own_lists p xs (take first cs)) bufs ≡ None → lists_difference base (own_lists p xs (take (k + 1) cs)) bufs ≡ found
       next n =
-          ap (λ (ls : List (List ℤ)). lists_difference 0 ls bufs) longer
-          ∙ differences-behind 0 (own_lists p xs (take k cs)) (get_or cs k [] ∷ []) bufs (o.same n)
+          ap (λ (ls : List (List ℤ)). lists_difference base ls bufs) longer
+          ∙ differences-behind base (own_lists p xs (take k cs)) (get_or cs k [] ∷ []) bufs (o.same n)
           ∙ ap (λ (i : ℕ). lists_difference i (get_or cs k [] ∷ []) bufs) (omega (arith, o.counted))
           ∙ go (list_difference place (get_or cs k []) (nth bufs place)) f
         where
@@ -109,7 +109,7 @@ module _ (p : Part) where
           go None q = sym q
           go (Some x) q = sym q
 
-      pub own-equal : is_some found ≡ false → AreOwn xs cs bufs first (k + 1) (place + 1)
+      pub own-equal : is_some found ≡ false → AreOwn base xs cs bufs first (k + 1) (place + 1)
       own-equal s = record {
         counted = omega (arith, o.counted, ap length longer, length-append (own_lists p xs (take k cs)) (get_or cs k [] ∷ []));
         same = λ n. next n ∙ none found s;
@@ -119,26 +119,26 @@ module _ (p : Part) where
           none None q = refl
           none (Some x) q = absurd (false≢true (sym q))
 
-      pub own-found : is_some found ≡ true → lists_difference 0 (own_lists p xs (take first cs)) bufs ≡ None → found ≡ lists_difference 0 (own_lists p xs cs) bufs
+      pub own-found : is_some found ≡ true → lists_difference base (own_lists p xs (take first cs)) bufs ≡ None → found ≡ lists_difference base (own_lists p xs cs) bufs
       own-found s n =
           let e : own_lists p xs cs ≡ own_lists p xs (take (k + 1) cs) ++ own_lists p (drop (length (take (k + 1) cs)) xs) (drop (k + 1) cs) =
           ap (own_lists p xs) (sym (take-append-drop (k + 1) cs)) ∙ own-behind xs (take (k + 1) cs) (drop (k + 1) cs) in
           go found s (next n) e
         where
-          go : (r : Option Difference) → is_some r ≡ true → lists_difference 0 (own_lists p xs (take (k + 1) cs)) bufs ≡ r
+          go : (r : Option Difference) → is_some r ≡ true → lists_difference base (own_lists p xs (take (k + 1) cs)) bufs ≡ r
               → own_lists p xs cs ≡ own_lists p xs (take (k + 1) cs) ++ own_lists p (drop (length (take (k + 1) cs)) xs) (drop (k + 1) cs)
-              → r ≡ lists_difference 0 (own_lists p xs cs) bufs
+              → r ≡ lists_difference base (own_lists p xs cs) bufs
           go None s q e = absurd (false≢true s)
           go (Some x) s q e =
-              sym (ap (λ (ls : List (List ℤ)). lists_difference 0 ls bufs) e
-              ∙ differences-found 0 (own_lists p xs (take (k + 1) cs)) (own_lists p (drop (length (take (k + 1) cs)) xs) (drop (k + 1) cs)) bufs x q)
+              sym (ap (λ (ls : List (List ℤ)). lists_difference base ls bufs) e
+              ∙ differences-found base (own_lists p xs (take (k + 1) cs)) (own_lists p (drop (length (take (k + 1) cs)) xs) (drop (k + 1) cs)) bufs x q)
 
-  pub own-start : (xs : List Piece) (cs bufs : List (List ℤ)) (first place : ℕ) → first ≤ length cs → first ≤ length xs → place ≡ length (filter is_own (take first xs)) → AreOwn xs cs bufs first first place
-  own-start xs cs bufs first place h l e = record { counted = e ∙ sym (own-first first xs cs h l); same = λ n. n }
+  pub own-start : (base : ℕ) (xs : List Piece) (cs bufs : List (List ℤ)) (first place : ℕ) → first ≤ length cs → first ≤ length xs → place ≡ base + length (filter is_own (take first xs)) → AreOwn base xs cs bufs first first place
+  own-start base xs cs bufs first place h l e = record { counted = omega (arith, e, own-first first xs cs h l); same = λ n. n }
 
-  pub own-end : (xs : List Piece) (cs bufs : List (List ℤ)) (first k place : ℕ) → length cs ≤ k → AreOwn xs cs bufs first k place
-      → lists_difference 0 (own_lists p xs (take first cs)) bufs ≡ None → None ≡ lists_difference 0 (own_lists p xs cs) bufs
-  own-end xs cs bufs first k place h o n = sym (o.same n) ∙ ap (λ (ls : List (List ℤ)). lists_difference 0 (own_lists p xs ls) bufs) (take_all k cs h)
+  pub own-end : (base : ℕ) (xs : List Piece) (cs bufs : List (List ℤ)) (first k place : ℕ) → length cs ≤ k → AreOwn base xs cs bufs first k place
+      → lists_difference base (own_lists p xs (take first cs)) bufs ≡ None → None ≡ lists_difference base (own_lists p xs cs) bufs
+  own-end base xs cs bufs first k place h o n = sym (o.same n) ∙ ap (λ (ls : List (List ℤ)). lists_difference base (own_lists p xs ls) bufs) (take_all k cs h)
 
   -- ---- how many there are
 
@@ -163,5 +163,5 @@ module _ (p : Part) where
   pub count-below : (xs : List Piece) (k count : ℕ) → k ≤ length xs → count ≡ length (filter is_own (take k xs)) → count ≤ k
   count-below xs k count h e = omega (arith, e, count-least (take k xs), length-take-le k xs h)
 
-  pub place-below : (xs : List Piece) (cs bufs : List (List ℤ)) (first k place : ℕ) → k ≤ length cs → k ≤ length xs → AreOwn xs cs bufs first k place → place ≤ k
-  place-below xs cs bufs first k place h l o = count-below xs k place l (o.counted ∙ own-first k xs cs h l)
+  pub place-below : (base : ℕ) (xs : List Piece) (cs bufs : List (List ℤ)) (first k place : ℕ) → k ≤ length cs → k ≤ length xs → AreOwn base xs cs bufs first k place → place ≤ base + k
+  place-below base xs cs bufs first k place h l o = omega (arith, o.counted, count-below xs k (length (own_lists p xs (take k cs))) l (own-first k xs cs h l))

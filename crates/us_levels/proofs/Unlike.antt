@@ -3,7 +3,7 @@ use Rattle.std.proofs.Common.{◌≡◌, ℕ, zero, suc, ◌+◌, ◌-◌, ◌^�
 use Rattle.std.specs.Option.{is_some}
 use Rattle.std.proofs.lemmas.Bool.{cases_eq, false≢true, ne_eqb}
 use Rattle.std.proofs.lemmas.Bool.Decides.{Decides-int_eq}
-use Rattle.std.proofs.lemmas.List.{drop_more, ext_get_or, length-map, length-take-le, map-append, take-append-drop, take_all, take_more}
+use Rattle.std.proofs.lemmas.List.{drop_all, drop_more, ext_get_or, length-map, length-take-le, map-append, take-append-drop, take_all, take_more}
 use Rattle.us_format.specs.Lists.{then_do, or_else, when, first_from, nth, cell}
 use Rattle.us_format.specs.Packs.{Buffer, written}
 use Rattle.us_format.proofs.Climb.{cell-written, first_from-is, length-written}
@@ -113,6 +113,14 @@ none-first (Some x) b e = absurd cc
 pub none-second : {A : Type 0} (a b : Option A) → or_else a b ≡ None → b ≡ None
 none-second None b e = e
 none-second (Some x) b e = absurd cc
+
+pub none-is : {A : Type 0} (r : Option A) → is_some r ≡ false → r ≡ None
+none-is None e = refl
+none-is (Some x) e = absurd (false≢true (sym e))
+
+pub some-first : {A : Type 0} (r s : Option A) → is_some r ≡ true → r ≡ or_else r s
+some-first None s e = absurd (false≢true e)
+some-first (Some x) s e = refl
 
 none-when : {A : Type 0} (b : Bool) (x : A) → when (not b) x ≡ None → b ≡ true
 none-when true x e = refl
@@ -240,3 +248,29 @@ module _ {X : Type 0} (n : ℕ) (f : X → List ℤ) (xs : List X) (bufs : List 
 
   pub passed-all : (i place : ℕ) → length xs ≤ i → ArePassed i place → None ≡ lists_difference n (map f xs) bufs
   passed-all i place h o = sym o.same ∙ ap (λ (l : List X). lists_difference n (map f l) bufs) (take_all i xs h)
+
+-- ---- a walk through lists
+
+module _ (first : ℕ) (lists bufs : List (List ℤ)) where
+  -- in front of number i no list differs
+  pub record AreAlike (i : ℕ) : Type 0 where
+    pub left : lists_difference first lists bufs ≡ lists_difference (first + i) (drop i lists) bufs
+
+  pub alike-none : AreAlike 0
+  alike-none = record { left = ap (λ (k : ℕ). lists_difference k lists bufs) (omega arith) }
+
+  module _ (i : ℕ) (h : i < length lists) (a : AreAlike i) (found : Option Difference) (f : found ≡ list_difference (first + i) (get_or lists i []) (nth bufs (first + i))) where
+    split : lists_difference first lists bufs ≡ or_else found (lists_difference (first + (i + 1)) (drop (i + 1) lists) bufs)
+    split =
+        a.left
+        ∙ ap (λ (l : List (List ℤ)). lists_difference (first + i) l bufs) (drop_more lists i [] h)
+        ∙ ap₂ (λ (r : Option Difference) (k : ℕ). or_else r (lists_difference k (drop (i + 1) lists) bufs)) (sym f) (omega arith)
+
+    pub alike-more : is_some found ≡ false → AreAlike (i + 1)
+    alike-more s = record { left = split ∙ ap (λ (r : Option Difference). or_else r (lists_difference (first + (i + 1)) (drop (i + 1) lists) bufs)) (none-is found s) }
+
+    pub alike-found : is_some found ≡ true → found ≡ lists_difference first lists bufs
+    alike-found s = some-first found (lists_difference (first + (i + 1)) (drop (i + 1) lists) bufs) s ∙ sym split
+
+  pub alike-all : (i : ℕ) → length lists ≤ i → AreAlike i → None ≡ lists_difference first lists bufs
+  alike-all i h a = sym (a.left ∙ ap (λ (l : List (List ℤ)). lists_difference (first + i) l bufs) (drop_all i lists h))

@@ -4,19 +4,18 @@ use Rattle.std.specs.List.{filter, sum}
 use Rattle.std.specs.Option.{is_some}
 use Rattle.std.proofs.Math.Seq.{take-append_seam}
 use Rattle.std.proofs.lemmas.Bool.{false≢true}
-use Rattle.std.proofs.lemmas.List.{append-nil, get_or-map, length-append, length-map, map-append}
+use Rattle.std.proofs.lemmas.List.{get_or-map, length-append, length-map, map-append}
 use Rattle.us_expr.specs.Tree.{Tree}
-use Rattle.us_expr.specs.declared.queries.Cond.{Cond}
 use Rattle.us_format.specs.declared.Kind.{Kind}
-use Rattle.us_format.specs.Buffers.{all_buffers, buffers_at, extent_buffer, holds, level_buffers, part_buffers, parts_of, piece_buffers, shares, table_buffer}
-use Rattle.us_format.specs.Declaration.{Column, Declaration, Part, Query, ValueColumn, has_extent, has_table}
+use Rattle.us_format.specs.Buffers.{buffers_at, level_buffers, piece_buffers}
+use Rattle.us_format.specs.Declaration.{Column, Part, ValueColumn}
 use Rattle.us_format.specs.Kinds.{Level, kind, levels_of}
 use Rattle.us_format.specs.Lists.{nth, or_else}
 use Rattle.us_format.specs.Matrix.{Entry, Shape}
 use Rattle.us_format.specs.Packs.{Buffer, CellsOf, Piece, buffer_of, is_packed, level_pieces, nothing, own_pieces, packed, pieces, written}
 use Rattle.us_format.specs.Positions.{count_below, down}
 use Rattle.us_format.specs.Queries.{extents_of}
-use Rattle.us_format.specs.Reading.{counts_in, extents_in, limit, part_counts_in}
+use Rattle.us_format.specs.Reading.{counts_in, limit}
 use Rattle.us_format.specs.Rules.{ArePacksLawful}
 use Rattle.us_format.proofs.Climb.{length-written}
 use Rattle.us_format.proofs.PartLaw.{map-map}
@@ -36,7 +35,7 @@ use Rattle.us_layout.proofs.Arranged.{packed-lists, pieces-by-kinds, written-buf
 use Rattle.us_levels.specs.declared.differing.Difference.{Difference}
 use Rattle.us_levels.specs.Differences.{first_difference}
 use Rattle.us_levels.specs.Lists.{lists_difference, own_lists}
-use Rattle.us_levels.proofs.Agreeing.{Agrees, agrees-next, agrees-short, levels_left, size_of}
+use Rattle.us_levels.proofs.Agreeing.{Agrees, StandFrom, agrees-next, agrees-short, levels_left, size_of}
 use Rattle.us_levels.proofs.Owning.{is_own, own-behind, own-none}
 use Rattle.us_levels.proofs.Unlike.{differences-append, differences-found, differences-written}
 
@@ -46,23 +45,21 @@ pack_cells_of p lists = map (λ pack. interleaved_cells (map (λ c. list_of (pie
 
 -- ---- the loop
 
-module _ (s : Shape) (p : Part) (m : List Entry) (bufs : List (List ℤ)) where
+module _ (s : Shape) (p : Part) (m : List Entry) (bufs : List (List ℤ)) (base : ℕ) where
   -- what stands before the levels of a walk that are left
   pub record IsCompared (w : Way) (lists : List (List ℤ)) : Type 0 where
+    pub held : List (List ℤ)
+    pub stand : StandFrom p base held bufs
     pub at : ℕ
     pub rest : List Tree
     pub before : List Piece
-    pub left : w.levels ≡ levels_left s p m bufs at rest
-    pub agrees : Agrees s p m bufs at rest before w.positions w.rows lists
+    pub left : w.levels ≡ levels_left s p m at rest
+    pub agrees : Agrees s p m bufs held base at rest before w.positions w.rows lists
 
-  same-extents : p.queries ≡ [] → extents_in 0 bufs p.queries ≡ extents_of m s p
-  same-extents e = ap (extents_in 0 bufs) e ∙ sym (no-extents p.queries e)
-    where
-      no-extents : (qs : List Query) → qs ≡ [] → extents_of m s (record p { queries = qs }) ≡ []
-      no-extents qs e = ap (λ (qs : List Query). extents_of m s (record p { queries = qs })) e
-
-  pub compared-start : (w : Way) → p.queries ≡ [] → IsStartOf s p m w → sum (part_counts_in s p bufs) ≤ limit → IsCompared w []
-  compared-start w none start few = record {
+  pub compared-start : (w : Way) (held : List (List ℤ)) → StandFrom p base held bufs → IsStartOf s p m w → sum (counts_in p held 0 (levels_of s (extents_of m s p) p) 1) ≤ limit → IsCompared w []
+  compared-start w held stand start few = record {
+    held = held;
+    stand = stand;
     at = 0;
     rest = p.levels;
     before = [];
@@ -72,10 +69,8 @@ module _ (s : Shape) (p : Part) (m : List Entry) (bufs : List (List ℤ)) where
       split = refl;
       long = refl;
       whole = ap (map written) (ap (λ (ls : List Level). level_buffers ls w.positions w.rows) (sym start.levels) ∙ start.buffers);
-      same = ap (λ (ls : List (List ℤ)). lists_difference 0 ls bufs) (own-none p (pieces p));
-      counts = λ h.
-          subst (λ (n : ℕ). sum (counts_in p bufs 0 (levels_of s (extents_of m s p) p) n) ≤ limit) (sym start.positions)
-          (subst (λ (extents : List ℕ). sum (counts_in p bufs 0 (levels_of s extents p) 1) ≤ limit) (same-extents none) few);
+      same = ap (λ (ls : List (List ℤ)). lists_difference base ls bufs) (own-none p (pieces p));
+      counts = λ h. subst (λ (n : ℕ). sum (counts_in p held 0 (levels_of s (extents_of m s p) p) n) ≤ limit) (sym start.positions) few;
     };
   }
 
@@ -87,48 +82,45 @@ module _ (s : Shape) (p : Part) (m : List Entry) (bufs : List (List ℤ)) where
     pub compared-short : is_first_long w.levels w.positions ≡ false
     compared-short = go c.at c.rest c.before c.left c.agrees
       where
-        go : (k : ℕ) (es : List Tree) (before : List Piece) → w.levels ≡ levels_left s p m bufs k es → Agrees s p m bufs k es before w.positions w.rows lists → is_first_long w.levels w.positions ≡ false
+        go : (k : ℕ) (es : List Tree) (before : List Piece) → w.levels ≡ levels_left s p m k es → Agrees s p m bufs c.held base k es before w.positions w.rows lists → is_first_long w.levels w.positions ≡ false
         go k [] before q a = absurd (omega (arith, h, ap length q))
-        go k (e ∷ es) before q a = ap (λ (ls : List Level). is_first_long ls w.positions) q ∙ agrees-short s p m bufs k e es before w.positions w.rows lists a
+        go k (e ∷ es) before q a = ap (λ (ls : List Level). is_first_long ls w.positions) q ∙ agrees-short s p m bufs c.held base k e es before w.positions w.rows lists a
 
-    -- the lists of a level are those of its pieces, and behind them stand those of the rest
-    record IsNext (k : ℕ) (e : Tree) (es : List Tree) (before : List Piece) : Type 0 where
-      pub left : w.levels ≡ levels_left s p m bufs k (e ∷ es)
-      pub agrees : Agrees s p m bufs k (e ∷ es) before w.positions w.rows lists
-
-    lists-are : (k : ℕ) (e : Tree) (es : List Tree) → w.levels ≡ levels_left s p m bufs k (e ∷ es) → longer ≡ lists ++ map written (buffers_at (kind p k) (size_of s p m bufs e) w.positions w.rows)
+    lists-are : (k : ℕ) (e : Tree) (es : List Tree) → w.levels ≡ levels_left s p m k (e ∷ es) → longer ≡ lists ++ map written (buffers_at (kind p k) (size_of s p m e) w.positions w.rows)
     lists-are k e es q = ap (λ (ls : List Level). lists ++ map written (first_buffers ls w.positions w.rows)) q
 
-    pub compared-next : KeepsRules p → p.queries ≡ [] → lists_difference 0 (own_lists p (pieces p) longer) bufs ≡ None → IsCompared (way_below w.levels w.positions w.rows) longer
-    compared-next kept none d = go c.at c.rest c.before c.left c.agrees
+    pub compared-next : KeepsRules p → lists_difference base (own_lists p (pieces p) longer) bufs ≡ None → IsCompared (way_below w.levels w.positions w.rows) longer
+    compared-next kept d = go c.at c.rest c.before c.left c.agrees
       where
-        go : (k : ℕ) (es : List Tree) (before : List Piece) → w.levels ≡ levels_left s p m bufs k es → Agrees s p m bufs k es before w.positions w.rows lists → IsCompared (way_below w.levels w.positions w.rows) longer
+        go : (k : ℕ) (es : List Tree) (before : List Piece) → w.levels ≡ levels_left s p m k es → Agrees s p m bufs c.held base k es before w.positions w.rows lists → IsCompared (way_below w.levels w.positions w.rows) longer
         go k [] before q a = absurd (omega (arith, h, ap length q))
         go k (e ∷ es) before q a =
             subst (λ (ls : List Level). IsCompared (way_below ls w.positions w.rows) (lists ++ map written (first_buffers ls w.positions w.rows))) (sym q) (record {
+              held = c.held;
+              stand = c.stand;
               at = suc k;
               rest = es;
               before = before ++ level_pieces k (kind p k);
               left = refl;
-              agrees = agrees-next s p m bufs k e es before w.positions w.rows lists a kept none (ap (λ (ls : List (List ℤ)). lists_difference 0 (own_lists p (pieces p) ls) bufs) (sym (lists-are k e es q)) ∙ d);
+              agrees = agrees-next s p m bufs c.held base k e es before w.positions w.rows lists a kept c.stand (ap (λ (ls : List (List ℤ)). lists_difference base (own_lists p (pieces p) ls) bufs) (sym (lists-are k e es q)) ∙ d);
             })
 
     -- the lists are the first of the part's
     pub compared-front : (more : List (List ℤ)) × (longer ++ more ≡ map written (piece_buffers s p m))
     compared-front = go c.at c.rest c.before c.left c.agrees
       where
-        go : (k : ℕ) (es : List Tree) (before : List Piece) → w.levels ≡ levels_left s p m bufs k es → Agrees s p m bufs k es before w.positions w.rows lists
+        go : (k : ℕ) (es : List Tree) (before : List Piece) → w.levels ≡ levels_left s p m k es → Agrees s p m bufs c.held base k es before w.positions w.rows lists
             → (more : List (List ℤ)) × (longer ++ more ≡ map written (piece_buffers s p m))
         go k [] before q a = absurd (omega (arith, h, ap length q))
         go k (e ∷ es) before q a =
-            let here : List Buffer = buffers_at (kind p k) (size_of s p m bufs e) w.positions w.rows in
-            let more : List Buffer = level_buffers (levels_left s p m bufs (suc k) es) (count_below (kind p k) (size_of s p m bufs e) w.positions w.rows) (down (kind p k) (size_of s p m bufs e) w.rows) in (
+            let here : List Buffer = buffers_at (kind p k) (size_of s p m e) w.positions w.rows in
+            let more : List Buffer = level_buffers (levels_left s p m (suc k) es) (count_below (kind p k) (size_of s p m e) w.positions w.rows) (down (kind p k) (size_of s p m e) w.rows) in (
               map written more,
               ap (λ (ls : List (List ℤ)). ls ++ map written more) (lists-are k e es q) ∙ append_assoc lists (map written here) (map written more)
                   ∙ ap (λ (l : List (List ℤ)). lists ++ l) (sym (map-append written here more)) ∙ a.whole,
             )
 
-  pub compared-same : (w : Way) (lists : List (List ℤ)) → IsCompared w lists → lists_difference 0 (own_lists p (pieces p) lists) bufs ≡ None
+  pub compared-same : (w : Way) (lists : List (List ℤ)) → IsCompared w lists → lists_difference base (own_lists p (pieces p) lists) bufs ≡ None
   compared-same w lists c = c.agrees.same
 
   -- where no level is left, all lists but the values are there
@@ -203,55 +195,46 @@ module _ (s : Shape) (p : Part) (m : List Entry) (bufs : List (List ℤ)) where
     pack_cells lists = pack_cells_of p lists
 
     abbrev pub whole_difference : Option Difference
-    whole_difference = first_difference 0 (packed p (piece_buffers s p m)) bufs
+    whole_difference = first_difference base (packed p (piece_buffers s p m)) bufs
 
-    whole-is : whole_difference ≡ lists_difference 0 (own_lists p (pieces p) true_lists ++ pack_cells true_lists) bufs
+    whole-is : whole_difference ≡ lists_difference base (own_lists p (pieces p) true_lists ++ pack_cells true_lists) bufs
     whole-is =
-        differences-written 0 (packed p (piece_buffers s p m)) bufs
-        ∙ ap (λ (ls : List (List ℤ)). lists_difference 0 ls bufs) (packed-lists p (piece_buffers s p m) one-length ∙ ap (λ (l : List (List ℤ)). l ++ pack_cells true_lists) own-whole)
+        differences-written base (packed p (piece_buffers s p m)) bufs
+        ∙ ap (λ (ls : List (List ℤ)). lists_difference base ls bufs) (packed-lists p (piece_buffers s p m) one-length ∙ ap (λ (l : List (List ℤ)). l ++ pack_cells true_lists) own-whole)
 
     -- a difference of the lists so far is that of all
-    pub found-early : (front more : List (List ℤ)) (found : Option Difference) → front ++ more ≡ true_lists → found ≡ lists_difference 0 (own_lists p (pieces p) front) bufs → is_some found ≡ true → found ≡ whole_difference
+    pub found-early : (front more : List (List ℤ)) (found : Option Difference) → front ++ more ≡ true_lists → found ≡ lists_difference base (own_lists p (pieces p) front) bufs → is_some found ≡ true → found ≡ whole_difference
     found-early front more None e f t = absurd (false≢true t)
     found-early front more (Some d) e f t =
         sym (whole-is
-        ∙ ap (λ (ls : List (List ℤ)). lists_difference 0 (own_lists p (pieces p) ls ++ pack_cells true_lists) bufs) (sym e)
-        ∙ ap (λ (ls : List (List ℤ)). lists_difference 0 (ls ++ pack_cells true_lists) bufs) (own-behind p (pieces p) front more)
-        ∙ differences-found 0 (own_lists p (pieces p) front ++ behind) (pack_cells true_lists) bufs d (differences-found 0 (own_lists p (pieces p) front) behind bufs d (sym f)))
+        ∙ ap (λ (ls : List (List ℤ)). lists_difference base (own_lists p (pieces p) ls ++ pack_cells true_lists) bufs) (sym e)
+        ∙ ap (λ (ls : List (List ℤ)). lists_difference base (ls ++ pack_cells true_lists) bufs) (own-behind p (pieces p) front more)
+        ∙ differences-found base (own_lists p (pieces p) front ++ behind) (pack_cells true_lists) bufs d (differences-found base (own_lists p (pieces p) front) behind bufs d (sym f)))
       where
         behind : List (List ℤ)
         behind = own_lists p (drop (length front) (pieces p)) more
 
     -- where no list of a piece differs, the packs decide
-    pub found-late : (found d : Option Difference) → found ≡ lists_difference 0 (own_lists p (pieces p) true_lists) bufs → is_some found ≡ false
-        → d ≡ lists_difference (length (filter (is_own p) (pieces p))) (pack_cells true_lists) bufs → d ≡ whole_difference
+    pub found-late : (found d : Option Difference) → found ≡ lists_difference base (own_lists p (pieces p) true_lists) bufs → is_some found ≡ false
+        → d ≡ lists_difference (base + length (filter (is_own p) (pieces p))) (pack_cells true_lists) bufs → d ≡ whole_difference
     found-late (Some x) d f t e = absurd (false≢true (sym t))
     found-late None d f t e =
         e
-        ∙ ap (λ (k : ℕ). lists_difference k (pack_cells true_lists) bufs) (sym (ap length (sym own-whole) ∙ length-map (own_pieces p) (list_of (pieces p) true_lists)))
-        ∙ ap (λ (k : ℕ). lists_difference k (pack_cells true_lists) bufs) (omega arith)
-        ∙ ap (λ (r : Option Difference). or_else r (lists_difference (0 + length (own_lists p (pieces p) true_lists)) (pack_cells true_lists) bufs)) f
-        ∙ sym (whole-is ∙ differences-append 0 (own_lists p (pieces p) true_lists) (pack_cells true_lists) bufs)
-
--- ---- a declaration of one part
-
-pub one-part : (s : Shape) (d : Declaration) (m : List Entry) (p : Part) → d.parts ≡ p ∷ [] → d.conds ≡ [] → p.queries ≡ [] → all_buffers s (parts_of s d m) ≡ packed p (piece_buffers s p m)
-one-part s d m p e f none =
-    ap₂ (λ (cs : List Cond) (ps : List Part). all_buffers s (shares (holds m s d) cs ps m)) f e
-    ∙ append-nil (part_buffers s p m)
-    ∙ ap (λ (qs : List Query). map (extent_buffer m s) (filter has_extent qs) ++ (map (table_buffer m s) (filter has_table qs) ++ packed p (piece_buffers s p m))) none
+        ∙ ap (λ (k : ℕ). lists_difference (base + k) (pack_cells true_lists) bufs) (sym (ap length (sym own-whole) ∙ length-map (own_pieces p) (list_of (pieces p) true_lists)))
+        ∙ ap (λ (r : Option Difference). or_else r (lists_difference (base + length (own_lists p (pieces p) true_lists)) (pack_cells true_lists) bufs)) f
+        ∙ sym (whole-is ∙ differences-append base (own_lists p (pieces p) true_lists) (pack_cells true_lists) bufs)
 
 -- ---- what a comparison of the lists behind others says
 
-pub own-of : (p : Part) (bufs lists more new : List (List ℤ)) (xs : List Piece) (first : ℕ) (found : Option Difference) → lists_difference 0 (own_lists p (pieces p) lists) bufs ≡ None → new ≡ lists ++ more → xs ≡ pieces p → first ≡ length lists
-    → (lists_difference 0 (own_lists p xs (take first new)) bufs ≡ None → found ≡ lists_difference 0 (own_lists p xs new) bufs) → found ≡ lists_difference 0 (own_lists p (pieces p) new) bufs
-own-of p bufs lists more new xs first found none e x f h =
+pub own-of : (p : Part) (base : ℕ) (bufs lists more new : List (List ℤ)) (xs : List Piece) (first : ℕ) (found : Option Difference) → lists_difference base (own_lists p (pieces p) lists) bufs ≡ None → new ≡ lists ++ more → xs ≡ pieces p → first ≡ length lists
+    → (lists_difference base (own_lists p xs (take first new)) bufs ≡ None → found ≡ lists_difference base (own_lists p xs new) bufs) → found ≡ lists_difference base (own_lists p (pieces p) new) bufs
+own-of p base bufs lists more new xs first found none e x f h =
     let before : take first new ≡ lists = ap₂ take f e ∙ take-append_seam lists more in
-    h (ap₂ (λ (ys : List Piece) (ls : List (List ℤ)). lists_difference 0 (own_lists p ys ls) bufs) x before ∙ none) ∙ ap (λ (ys : List Piece). lists_difference 0 (own_lists p ys new) bufs) x
+    h (ap₂ (λ (ys : List Piece) (ls : List (List ℤ)). lists_difference base (own_lists p ys ls) bufs) x before ∙ none) ∙ ap (λ (ys : List Piece). lists_difference base (own_lists p ys new) bufs) x
 
 -- lists that are all, or the first of all, are no more than the pieces
 pub few-names : (s : Shape) (p : Part) (m : List Entry) (packs : ArePacksLawful p) (front more : List (List ℤ)) (xs : List Piece) → front ++ more ≡ map written (piece_buffers s p m) → xs ≡ pieces p → length front ≤ length xs
-few-names s p m packs front more xs e x = omega (arith, front-few s p m [] packs front more e, ap length x)
+few-names s p m packs front more xs e x = omega (arith, front-few s p m [] 0 packs front more e, ap length x)
 
 pub pack_cells-are : (part : held.Part) (lists : List (List ℤ)) (xs : List Piece) → xs ≡ pieces (plain_part part)
     → map (λ pack. interleaved_cells (map (λ c. list_of xs lists (CellsOf c)) (map column_of pack))) part.packs ≡ pack_cells_of (plain_part part) lists

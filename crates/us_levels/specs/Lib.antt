@@ -1,3 +1,4 @@
 pub mod Differences
 pub mod Lists
 pub mod Comparable
+pub mod Shared

@@ -35,9 +35,9 @@ own_lists p (x ∷ xs) (c ∷ cs) = if is_packed p x then own_lists p xs cs else
 abbrev pub own_count : Part → List Piece → ℕ
 own_count p xs = length (filter (is_own p) xs)
 
--- of the buffers from the lists of those pieces that no pack has
-abbrev pub own_difference : Part → List Piece → List (List ℤ) → List (List ℤ) → Option Difference
-own_difference p xs lists bufs = lists_difference 0 (own_lists p xs lists) bufs
+-- of the buffers from k on from the lists of those pieces that no pack has
+abbrev pub own_difference : ℕ → Part → List Piece → List (List ℤ) → List (List ℤ) → Option Difference
+own_difference k p xs lists bufs = lists_difference k (own_lists p xs lists) bufs
 
 -- of the buffers from k on from packs of the program
 abbrev pub packs_difference : ℕ → List Piece → List (List ℤ) → List (List columns.Column) → List (List ℤ) → Option Difference

@@ -4,7 +4,7 @@ ghost use Rattle.std.specs.Ordering.{int_eq};
 ghost use Rattle.us_format.specs.Lists.{cell, nth};
 ghost use Rattle.us_judge.specs.Views.{plain_part};
 ghost use Rattle.us_layout.specs.Arranging.{HaveOneLengthEach, plain_piece};
-ghost use Rattle.us_levels.specs.Lists.{list_difference, own_count, own_difference, packs_difference};
+ghost use Rattle.us_levels.specs.Lists.{list_difference, lists_difference, own_count, own_difference, packs_difference};
 
 use crate::differing::Difference;
 use std::alloc::{AllocError, Global};
@@ -71,6 +71,24 @@ fn buffer_difference(buffers: &Buffers, place: usize, want: &[i64]) -> Option<Di
     list_difference(place as u64, cells_of(buffers, place), want)
 }
 
+/// The first difference of the buffers from lists, the first of which is that of the buffer with this place.
+pub(crate) fn lists_difference(
+    lists: &Buffers,
+    first: usize,
+    buffers: &Buffers,
+) -> Option<Difference>
+    requires room { first + length lists.now < 2 ^ 64 }
+    ensures { result ≡ lists_difference first lists.now buffers.now }
+{
+    for k in 0..lists.count() {
+        let found = buffer_difference(buffers, first + k, lists.list(k));
+        if found.is_some() {
+            return found;
+        }
+    }
+    None
+}
+
 /// How many of some pieces no pack has.
 fn own_count(part: &Part, names: &[Piece]) -> usize
     ensures { result ≡ own_count (plain_part part.now) (map plain_piece names.now) }
@@ -84,21 +102,25 @@ fn own_count(part: &Part, names: &[Piece]) -> usize
     count
 }
 
-/// The first difference of the buffers from the lists of the pieces that no pack has, where the lists in front of
-/// `first` don't differ.
+/// The first difference of the buffers from `base` on from the lists of the pieces that no pack has, where the lists in
+/// front of `first` don't differ.
 pub(crate) fn own_difference(
     part: &Part,
     names: &[Piece],
     lists: &Buffers,
     first: usize,
+    base: usize,
     buffers: &Buffers,
 ) -> Option<Difference>
     requires first { first ≤ length lists.now }
     requires few { length lists.now ≤ length names.now }
-    ensures { own_difference (plain_part part.now) (map plain_piece names.now) (take first lists.now) buffers.now ≡ None
-        → result ≡ own_difference (plain_part part.now) (map plain_piece names.now) lists.now buffers.now }
+    requires names { length names.now < 2 ^ 62 }
+    requires room { base < 2 ^ 62 }
+    ensures { own_difference base (plain_part part.now) (map plain_piece names.now) (take first lists.now) buffers.now ≡ None
+        → result ≡ own_difference base (plain_part part.now) (map plain_piece names.now) lists.now buffers.now }
 {
-    let mut place = own_count(part, &names[..first]);
+    let before = own_count(part, &names[..first]);
+    let mut place = base + before;
     for k in first..lists.count() {
         if is_packed(part, names[k]) {
             continue;
@@ -139,19 +161,22 @@ fn packs_difference(
 }
 
 /// The first difference of the buffers from the packs of a part, where the lists of its pieces are known. The buffers of
-/// the pieces that no pack has stand in front of them.
+/// the pieces that no pack has stand in front of them, from `base` on.
 pub(crate) fn pack_difference(
     alloc: Global,
     part: &Part,
     names: &[Piece],
     lists: &Buffers,
+    base: usize,
     buffers: &Buffers,
 ) -> Result<Option<Difference>, AllocError>
     requires few { length names.now < 2 ^ 62 }
+    requires room { base < 2 ^ 62 }
     requires packs { HaveOneLengthEach (map plain_piece names.now) lists.now part.now.packs }
-    ensures { IfOk result (λ d. let first = own_count (plain_part part.now) (map plain_piece names.now) in
+    ensures { IfOk result (λ d. let first = base + own_count (plain_part part.now) (map plain_piece names.now) in
         d ≡ packs_difference first (map plain_piece names.now) lists.now part.now.packs buffers.now) }
 {
-    let first = own_count(part, names);
+    let own = own_count(part, names);
+    let first = base + own;
     packs_difference(alloc, part.packs.as_slice(), first, names, lists, buffers)
 }

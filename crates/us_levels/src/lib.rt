@@ -1,5 +1,4 @@
-//! The buffers of a matrix in a format: their size, the plain builder, the first difference of given buffers from them, and the
-//! climb from a position to its coordinate, which `us_climb` has.
+//! The buffers of a matrix in a format: their size, the plain builder, and the first difference of given buffers from them.
 //!
 //! What all of these mean stands in `us_format`; this crate says it of formats and matrices of the program.
 #![tactic(auto)]
@@ -12,4 +11,3 @@ mod differing;
 pub use building::{build_plain, size_of};
 pub use differing::{Difference, differs};
 pub use us_build::BuildFault;
-pub use us_climb::climb;

@@ -4,6 +4,7 @@ use Rattle.std.proofs.lemmas.Bool.{cases_Bool}
 use Rattle.std.proofs.lemmas.Bool.Decides.{nat_tests}
 use Rattle.std.specs.Str.Parse.{digits_value, starts_with_minus, without_leading_sign}
 use Rattle.us_mm.specs.declared.fault.MmFault.TheVariants.{SizeLine, EntryLine}
+use Rattle.us_mm_lines.specs.Usual.{IsEntryLine}
 use Rattle.us_mm_lines.specs.Words.{words, is_size_word, size_of, is_value_word, value_of, signed_value, is_value}
 use Rattle.us_mm.specs.declared.form.Field.{Field}
 use Rattle.us_mm.specs.declared.form.Field.TheVariants.{Integer, Pattern}
@@ -114,6 +115,13 @@ integer_known k n rows cols a b c x y minus z row col p q r e f s g =
     ap (λ t. cond t (entry_numbers k n rows cols (size_of a) (size_of b) (value_of c)) (Err (EntryLine n))) (all_three _ _ _ p q r)
     ∙ ap (λ t. entry_numbers k n rows cols (size_of a) (size_of b) (signed_value t (digits_value 10 (without_leading_sign c)))) (sym s)
     ∙ saturated_entry k n rows cols _ _ _ x y _ row col e f (saturated_value minus _ z g)
+
+-- the three words of an entry line that was read in one pass
+pub integer_usual : (k : Symmetry) (n rows cols : ℕ) (line : List ℕ) (row col : ℕ) (minus : Bool) (size : ℕ) → rows < 2 ^ 31 → cols < 2 ^ 31 → IsEntryLine line row col minus size
+    → integer_words k n rows cols (words line) ≡ entry_numbers k n rows cols row col (signed_value minus size)
+integer_usual k n rows cols line row col minus size r c h =
+    ap (integer_words k n rows cols) h.three
+    ∙ integer_known k n rows cols h.first h.second h.third row col minus size r c h.row_word h.col_word h.value_word h.row_is h.col_is h.minus_is h.size_is
 
 both : (a b : Bool) → a ≡ true → b ≡ true → (a && b) ≡ true
 both a b p q = rw (p, q) refl

@@ -5,3 +5,4 @@ pub mod WrittenLemmas
 pub mod WordStateLemmas
 pub mod LineStateLemmas
 pub mod CountLemmas
+pub mod UsualLemmas

@@ -3,10 +3,12 @@
 
 mod line_state;
 mod lines;
+mod usual;
 mod word_state;
 mod words;
 
 pub use line_state::LineState;
 pub use lines::{is_skipped, without_return};
+pub use usual::{UsualEntry, usual_entry};
 pub use word_state::WordState;
 pub use words::{next_word, number_of, signed, size_word, three_words, two_words, value_word};

@@ -1,7 +1,7 @@
 //! Loop code that is run: what the command answers, stores and prints.
 
 use crate::runs::{files, has_file, has_printed, is_answered, is_file};
-use crate::samples::{CONTAINER, LIBRARY, SAMPLE};
+use crate::samples::{CONTAINER, SAMPLE, library};
 use std::alloc::{AllocError, Global};
 use std::test::Fail;
 use us_outside::Call;
@@ -204,7 +204,8 @@ fn code_is_run_within_its_steps(rt: HostRuntime) -> Result<(), Fail> {
 #[test]
 fn code_has_as_many_sources_as_the_input_has_buffers(rt: HostRuntime) -> Result<(), Fail> {
     let alloc = rt.alloc();
-    let mut outside = files(alloc, LIBRARY.as_bytes(), SAMPLE.as_bytes())?;
+    let library = library(alloc)?;
+    let mut outside = files(alloc, library.as_bytes(), SAMPLE.as_bytes())?;
     outside.put("COPY", COPY.as_bytes())?;
     let convert = ["convert", "LIB", "A", "coo", "C", "-"];
     assert!(rt; is_answered(alloc, &mut outside, &convert, "ok"));

@@ -1,7 +1,7 @@
 //! Whole commands over files in memory: what they answer, print and store.
 
 use crate::runs::{files, has_file, has_printed, is_answered, is_file};
-use crate::samples::{CONTAINER, LIBRARY, SAMPLE};
+use crate::samples::{CONTAINER, SAMPLE, TRI, library};
 use std::alloc::{AllocError, Global};
 use std::test::Fail;
 use us_container::ContainerFault;
@@ -12,7 +12,8 @@ use us_top::{Slot, Status};
 
 /// The worked library and the small matrix.
 fn worked(alloc: Global) -> Result<MemoryOutside, AllocError> {
-    files(alloc, LIBRARY.as_bytes(), SAMPLE.as_bytes())
+    let library = library(alloc)?;
+    files(alloc, library.as_bytes(), SAMPLE.as_bytes())
 }
 
 /// Whether a command line is answered by this line and prints this, over the worked library and the small matrix.
@@ -26,17 +27,20 @@ fn goes(alloc: Global, texts: &[&str], line: &str, printed: &str) -> Result<bool
 }
 
 /// Chains of formats, and the size of the small matrix in each of them.
-const CHAINS: [(&str, &str); 10] = [
-    ("csr", "csr 16\n"),
-    ("csc", "csc 18\n"),
-    ("coo", "coo 17\n"),
-    ("dcsr", "dcsr 18\n"),
-    ("bcsr", "bcsr 41\n"),
-    ("dia", "dia 26\n"),
-    ("aos", "aos 17\n"),
+const CHAINS: [(&str, &str); 7] = [
     ("csr,csr", "csr 16\ncsr 16\n"),
     ("mtx", ""),
     ("csr,dia,csc,mtx", "csr 16\ndia 26\ncsc 18\n"),
+    ("jds,cisr,ell,mtx", "jds 31\ncisr 25\nell 28\n"),
+    (
+        "csr,dia,ell,hyb,csc,mtx",
+        "csr 16\ndia 26\nell 28\nhyb 23\ncsc 18\n",
+    ),
+    ("heavy,aos,hyb", "heavy 20\naos 17\nhyb 23\n"),
+    (
+        "bcsr,cisr,dcsr,jds,coo",
+        "bcsr 41\ncisr 25\ndcsr 18\njds 31\ncoo 17\n",
+    ),
 ];
 
 /// Whether a chain prints these sizes, and what it stores is the small matrix.
@@ -97,12 +101,12 @@ coo accepted listed[0,2] slot[0,3]
 dcsr accepted compressed[0,2] compressed[0,3]
 bcsr accepted full[0,1] compressed[0,1] full[0,1] full[0,1]
 dia accepted compressed[-2,3] full[0,2]
-ell refused J14 part 1 place 0
-jds refused J14 part 1 place 0
-cisr refused J14 part 1 place 0
+ell accepted full[0,2] full[0,?] slot[0,3]
+jds accepted full[0,2] full[0,?] slot[0,3]
+cisr accepted full[0,1] full[0,?] compressed[0,3]
 aos accepted listed[0,2] slot[0,3]
-hyb refused J14 part 0 place 0
-heavy refused J14 part 0 place 0
+hyb accepted full[0,2] full[0,?] slot[0,3] | listed[0,2] slot[0,3]
+heavy accepted full[0,2] compressed[0,3] | listed[0,2] slot[0,3]
 ";
 
 /// Command lines that print.
@@ -122,7 +126,7 @@ fn commands_print(rt: HostRuntime) -> Result<(), Fail> {
 }
 
 /// Command lines that are refused, and the answer's line.
-const REFUSED: [(&[&str], &str); 32] = [
+const REFUSED: [(&[&str], &str); 28] = [
     (&[], "words"),
     (&["canon"], "words"),
     (&["canon", "A"], "words"),
@@ -148,22 +152,6 @@ const REFUSED: [(&[&str], &str); 32] = [
     (
         &["convert", "LIB", "A", "csr,nope", "OUT", "-"],
         "unknown name 2",
-    ),
-    (
-        &["convert", "LIB", "A", "ell", "OUT", "-"],
-        "refused name 1 J14 part 1 place 0",
-    ),
-    (
-        &["convert", "LIB", "A", "csr,ell", "OUT", "-"],
-        "refused name 2 J14 part 1 place 0",
-    ),
-    (
-        &["convert", "LIB", "A", "ell,nope", "OUT", "-"],
-        "unknown name 2",
-    ),
-    (
-        &["convert", "LIB", "MISSING", "ell", "OUT", "-"],
-        "refused name 1 J14 part 1 place 0",
     ),
     (
         &["convert", "LIB", "MISSING", "csr", "OUT", "-"],
@@ -196,15 +184,77 @@ fn refused_commands_print_nothing(rt: HostRuntime) -> Result<(), Fail> {
     Ok(())
 }
 
+/// A library whose second declaration is refused.
+const HALVED: &str = "format csr { map (i, j) trim 1 merge 1 } format half { map (i / 2, j) }";
+
+/// Names, the word of the input, and the answer's line: names come first, then rules, then the input.
+const HALVES: [(&str, &str, &str); 4] = [
+    ("half", "A", "refused name 1 J10 part 1 place 0"),
+    ("csr,half", "A", "refused name 2 J10 part 1 place 0"),
+    ("half,nope", "A", "unknown name 2"),
+    ("half", "MISSING", "refused name 1 J10 part 1 place 0"),
+];
+
+/// Whether a chain of that library is answered by this line, and nothing is printed or stored.
+fn is_halved(alloc: Global, chain: &str, input: &str, line: &str) -> Result<bool, AllocError> {
+    let mut outside = files(alloc, HALVED.as_bytes(), SAMPLE.as_bytes())?;
+    let words = ["convert", "LIB", input, chain, "OUT", "-"];
+    Ok(
+        is_answered(alloc, &mut outside, &words, line)
+            && has_printed(&outside, b"")
+            && !has_file(&outside, "OUT"),
+    )
+}
+
+#[test]
+fn names_are_found_and_judged_before_the_input_is_read(rt: HostRuntime) -> Result<(), Fail> {
+    for (chain, input, line) in HALVES {
+        assert!(rt; is_halved(rt.alloc(), chain, input, line)?, "{line}");
+    }
+    Ok(())
+}
+
 /// A matrix of the greatest shape.
 const HUGE: &str = "%%MatrixMarket matrix coordinate integer general
 2147483647 2147483647 1
 2147483647 2147483647 1
 ";
 
-/// Whether a chain on the matrix of the greatest shape is answered by this line, and prints this.
-fn goes_huge(alloc: Global, chain: &str, line: &str, printed: &str) -> Result<bool, AllocError> {
-    let mut outside = files(alloc, LIBRARY.as_bytes(), HUGE.as_bytes())?;
+/// A matrix of many rows, one of which is full.
+const LONG: &str = "%%MatrixMarket matrix coordinate integer general
+5000000 4 4
+1 1 1
+1 2 1
+1 3 1
+1 4 1
+";
+
+/// Large matrices, chains, the answer's line, and what is printed.
+const LARGE: [(&str, &str, &str, &str); 12] = [
+    (HUGE, "coo", "ok", "coo 7\n"),
+    (HUGE, "csr", "too large 1", ""),
+    (HUGE, "coo,csr", "too large 2", ""),
+    (HUGE, "csr,coo", "too large 1", ""),
+    (HUGE, "dcsr,aos", "ok", "dcsr 9\naos 7\n"),
+    (HUGE, "ell", "too large 1", ""),
+    (HUGE, "jds", "too large 1", ""),
+    (HUGE, "cisr", "too large 1", ""),
+    (HUGE, "aos,hyb", "too large 2", ""),
+    (HUGE, "heavy", "too large 1", ""),
+    (LONG, "ell", "too large 1", ""),
+    (LONG, "dcsr,jds", "too large 2", ""),
+];
+
+/// Whether a chain on a large matrix is answered by this line, prints this, and stores only where it is `ok`.
+fn goes_large(
+    alloc: Global,
+    input: &str,
+    chain: &str,
+    line: &str,
+    printed: &str,
+) -> Result<bool, AllocError> {
+    let library = library(alloc)?;
+    let mut outside = files(alloc, library.as_bytes(), input.as_bytes())?;
     let words = ["convert", "LIB", "A", chain, "OUT", "-"];
     Ok(
         is_answered(alloc, &mut outside, &words, line)
@@ -215,16 +265,17 @@ fn goes_huge(alloc: Global, chain: &str, line: &str, printed: &str) -> Result<bo
 
 #[test]
 fn each_hop_is_within_the_limit(rt: HostRuntime) -> Result<(), Fail> {
-    let alloc = rt.alloc();
-    assert!(rt; goes_huge(alloc, "coo", "ok", "coo 7\n")?);
-    assert!(rt; goes_huge(alloc, "csr", "too large 1", "")?);
-    assert!(rt; goes_huge(alloc, "coo,csr", "too large 2", "")?);
-    assert!(rt; goes_huge(alloc, "csr,coo", "too large 1", "")?);
+    for (input, chain, line, printed) in LARGE {
+        assert!(rt;
+            goes_large(rt.alloc(), input, chain, line, printed)?,
+            "{chain}"
+        );
+    }
     Ok(())
 }
 
 /// What `check` says of a library, for 3 rows and 4 columns: the answer's line, and what is printed.
-const LIBRARIES: [(&str, &str, &str); 22] = [
+const LIBRARIES: [(&str, &str, &str); 28] = [
     ("# nothing yet\n", "ok", ""),
     ("format", "formats form 6", ""),
     ("format f { }", "formats form 11", ""),
@@ -299,17 +350,50 @@ const LIBRARIES: [(&str, &str, &str); 22] = [
     (
         "format f { let n = sum(i) part when n < 2 { map (i, j) } rest { map (i, j) } }",
         "ok",
-        "f refused J14 part 0 place 0\n",
+        "f accepted full[0,2] full[0,3] | full[0,2] full[0,3]\n",
     ),
     (
-        "format f { let n = sum(i) part when n < 2 { map (i, j) } part when m < 3 { map (i, j) } rest { map (i, j) } }",
+        "format tri { let k = enumerate(i) part when k < 1 { map (i, j) trim 0, 1 } part when z < 2 { map (i, j) trim 0, 1 } rest { map (i, j) trim 0, 1 } }",
         "ok",
-        "f refused J2 part 0 place 2\n",
+        "tri refused J2 part 0 place 2\n",
     ),
     (
         "format f { map (i % 4, i / 4, j) }",
         "ok",
         "f accepted full[0,2] full[0,0] full[0,3]\n",
+    ),
+    (
+        TRI,
+        "ok",
+        "tri accepted listed[0,2] slot[0,3] | listed[0,2] slot[0,3] | listed[0,2] slot[0,3]\n",
+    ),
+    // a rank ends with the shape, a count and a slot with the data, and a lane with the number of lanes
+    (
+        "format f { let p = reorder(j) map (p, i) trim 1 merge 1 }",
+        "ok",
+        "f accepted full[0,3] compressed[0,2]\n",
+    ),
+    (
+        "format f { let a, b = schedule(j) into 3 map (b, a, i) trim 2 }",
+        "ok",
+        "f accepted full[0,?] full[0,2] listed[0,2]\n",
+    ),
+    (
+        "format f { let n = sum(i) let k = enumerate(j) map (i, j, k) trim 0 merge 0 }",
+        "ok",
+        "f accepted compressed[0,2] full[0,3] full[0,?]\n",
+    ),
+    // a variable of the head is none of the part
+    (
+        "format f { let k = enumerate(i) part when k < 1 { map (i, k, j) } rest { map (i, j) } }",
+        "ok",
+        "f refused J2 part 1 place 1\n",
+    ),
+    // of a later part the first one that breaks a rule counts
+    (
+        "format f { let k = enumerate(i) part when k < 1 { map (i, j) } part when k < 2 { map (i) } rest { map () } }",
+        "ok",
+        "f refused J11 part 2 place 0\n",
     ),
 ];
 
@@ -401,13 +485,13 @@ const ANSWERS: [(Status, u8, &str); 12] = [
         Status::Refused {
             k: 2,
             why: Refusal {
-                rule: 14,
-                part: 1,
-                place: 0,
+                rule: 13,
+                part: 0,
+                place: 1,
             },
         },
         5,
-        "refused name 2 J14 part 1 place 0",
+        "refused name 2 J13 part 0 place 1",
     ),
     (
         Status::Container(ContainerFault::Cell {

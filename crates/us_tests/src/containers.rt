@@ -1,7 +1,7 @@
 //! Containers that were changed, and the answers to reading them.
 
 use crate::runs::{files, has_file, is_answered};
-use crate::samples::CONTAINER;
+use crate::samples::{AOS, CISR, CONTAINER, CSR, DIA, ELL, HYB, JDS};
 use std::alloc::{AllocError, Global};
 use std::test::Fail;
 
@@ -14,10 +14,10 @@ fn is_read(alloc: Global, bytes: &[u8], line: &str) -> Result<bool, AllocError> 
     )
 }
 
-/// The sample's container with the lowest bit of one byte changed.
-fn changed(alloc: Global, place: usize) -> Result<Vec<u8>, AllocError> {
+/// These bytes with the lowest bit of one of them changed.
+pub fn changed(alloc: Global, bytes: &[u8], place: usize) -> Result<Vec<u8>, AllocError> {
     let mut copy = Vec::new(alloc);
-    for (k, byte) in CONTAINER.iter().enumerate() {
+    for (k, byte) in bytes.iter().enumerate() {
         copy.push(if k == place { *byte ^ 1 } else { *byte })?;
     }
     Ok(copy)
@@ -81,7 +81,7 @@ const CHANGES: [(usize, &str); 43] = [
 fn containers_with_one_bit_changed(rt: HostRuntime) -> Result<(), Fail> {
     let alloc = rt.alloc();
     for (place, line) in CHANGES {
-        let bytes = changed(alloc, place)?;
+        let bytes = changed(alloc, CONTAINER, place)?;
         assert!(rt; is_read(alloc, bytes.as_slice(), line)?, "{place}");
     }
     Ok(())
@@ -143,8 +143,8 @@ fn with_text(alloc: Global, text: &[u8]) -> Result<Vec<u8>, AllocError> {
 }
 
 /// A container for 3 rows and 4 columns.
-fn container(alloc: Global, text: &[u8], buffers: &[&[i64]]) -> Result<Vec<u8>, AllocError> {
-    let mut bytes = with_text(alloc, text)?;
+pub fn container(alloc: Global, text: &str, buffers: &[&[i64]]) -> Result<Vec<u8>, AllocError> {
+    let mut bytes = with_text(alloc, text.as_bytes())?;
     push_number(&mut bytes, 3)?;
     push_number(&mut bytes, 4)?;
     push_number(&mut bytes, buffers.len() as u64)?;
@@ -191,14 +191,8 @@ fn texts_are_canonical(rt: HostRuntime) -> Result<(), Fail> {
     Ok(())
 }
 
-const CSR: &[u8] = b"format csr {\n  map (i, j)\n  trim 1\n  merge 1\n}\n";
-
-const DIA: &[u8] = b"format dia {\n  map (j - i, i)\n  trim 0\n  merge 0\n}\n";
-
-const AOS: &[u8] = b"format aos {\n  map (i, j)\n  trim 0, 1\n  pack (0, 1, val)\n}\n";
-
 /// Formats, buffers for 3 rows and 4 columns, and the answer.
-const BUFFERS: [(&[u8], &[&[i64]], &str); 13] = [
+const BUFFERS: [(&str, &[&[i64]], &str); 33] = [
     (CSR, &[&[0, 2, 2, 3], &[0, 2, 1], &[5, 2, -7]], "ok"),
     (
         CSR,
@@ -247,11 +241,161 @@ const BUFFERS: [(&[u8], &[&[i64]], &str); 13] = [
         &[&[0, 3], &[1, 2, 4], &[0, 0, -7, 5, 0, 0, 2, 0]],
         "container lengths 2",
     ),
-    (AOS, &[&[0, 3], &[0, 0, 5, 0, 2, 2, 2, 1, -7]], "ok"),
     (
         AOS,
         &[&[0, 3], &[0, 0, 5, 0, 2, 2, 2, 1]],
         "container lengths 1",
+    ),
+    // an extent that is none, one that fits no lengths, and one above the greatest count
+    (
+        ELL,
+        &[&[-1], &[0, 2, 0, 0, 1, 0], &[5, 2, 0, 0, -7, 0]],
+        "container lengths 0",
+    ),
+    (
+        ELL,
+        &[&[2, 2], &[0, 2, 0, 0, 1, 0], &[5, 2, 0, 0, -7, 0]],
+        "container lengths 0",
+    ),
+    (
+        ELL,
+        &[&[3], &[0, 2, 0, 0, 1, 0], &[5, 2, 0, 0, -7, 0]],
+        "container lengths 1",
+    ),
+    (
+        ELL,
+        &[
+            &[3],
+            &[0, 2, 0, 0, 0, 0, 1, 0, 0],
+            &[5, 2, 0, 0, 0, 0, -7, 0, 0],
+        ],
+        "container cell 0 0 3 2",
+    ),
+    // padding that isn't 0, and an entry that leaves a hole in its row
+    (
+        ELL,
+        &[&[2], &[0, 2, 0, 0, 1, 1], &[5, 2, 0, 0, -7, 0]],
+        "container cell 1 5 1 0",
+    ),
+    (
+        ELL,
+        &[&[2], &[0, 2, 0, 0, 0, 1], &[5, 2, 0, 0, 0, -7]],
+        "container cell 1 4 0 1",
+    ),
+    // an order with a row twice, and one of equal rows
+    (
+        JDS,
+        &[&[2], &[0, 0, 1], &[0, 2, 1, 0, 0, 0], &[5, 2, -7, 0, 0, 0]],
+        "container cell 0 0 2 3",
+    ),
+    (
+        JDS,
+        &[&[2], &[0, 3, 1], &[0, 2, 1, 0, 0, 0], &[5, 2, -7, 0, 0, 0]],
+        "container climb 1 2",
+    ),
+    (
+        JDS,
+        &[&[1], &[1, 0, 2], &[3, 0, 1], &[8, 5, -7]],
+        "container cell 1 0 1 0",
+    ),
+    (
+        JDS,
+        &[&[2], &[0, 2], &[0, 2, 1, 0, 0, 0], &[5, 2, -7, 0, 0, 0]],
+        "container lengths 1",
+    ),
+    // a place of a lane without a row, and one with a row that isn't there
+    (
+        CISR,
+        &[
+            &[2],
+            &[0, 0, 2, 3],
+            &[0, 2, 2, 2, 3],
+            &[0, 2, 1],
+            &[5, 2, -7],
+        ],
+        "container climb 1 0",
+    ),
+    (
+        CISR,
+        &[
+            &[2],
+            &[4, 0, 2, 3],
+            &[0, 2, 2, 2, 3],
+            &[0, 2, 1],
+            &[5, 2, -7],
+        ],
+        "container climb 1 0",
+    ),
+    // a row without entries in a lane that isn't its own
+    (
+        CISR,
+        &[
+            &[2],
+            &[1, 2, 3, 0],
+            &[0, 2, 2, 3, 3],
+            &[0, 2, 1],
+            &[5, 2, -7],
+        ],
+        "container cell 1 1 2 0",
+    ),
+    // lanes with fewer places than rows
+    (
+        CISR,
+        &[&[1], &[1, 3], &[0, 2, 3], &[0, 2, 1], &[5, 2, -7]],
+        "container lengths 1",
+    ),
+    // the second part
+    (
+        HYB,
+        &[&[1], &[0, 0, 1], &[5, 0, -7], &[0, 1], &[0], &[0], &[2]],
+        "container climb 2 0",
+    ),
+    (
+        HYB,
+        &[&[1], &[0, 0, 1], &[5, 0, -7], &[0, 1], &[0], &[4], &[2]],
+        "container climb 2 0",
+    ),
+    (
+        HYB,
+        &[&[1], &[0, 0, 1], &[5, 0, -7], &[0, 1], &[0], &[2], &[]],
+        "container lengths 6",
+    ),
+    (
+        HYB,
+        &[&[1], &[0, 0, 1], &[5, 0, -7], &[0, 1, 1], &[0], &[2], &[2]],
+        "container lengths 3",
+    ),
+    (
+        HYB,
+        &[&[1], &[0, 0, 1], &[5, 0, -7], &[0, 1], &[0], &[2]],
+        "container lengths 6",
+    ),
+    // an entry of the first part in the second, and one of the second in the first
+    (
+        HYB,
+        &[
+            &[1],
+            &[0, 0, 0],
+            &[5, 0, 0],
+            &[0, 2],
+            &[0, 2],
+            &[2, 1],
+            &[2, -7],
+        ],
+        "container cell 1 2 0 1",
+    ),
+    (
+        HYB,
+        &[
+            &[2],
+            &[0, 2, 0, 0, 1, 0],
+            &[5, 2, 0, 0, -7, 0],
+            &[0, 0],
+            &[],
+            &[],
+            &[],
+        ],
+        "container cell 0 0 2 1",
     ),
 ];
 

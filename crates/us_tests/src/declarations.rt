@@ -1,6 +1,6 @@
 //! Texts of declarations: what is read of them, the places of their faults, and their canonical texts.
 
-use crate::samples::LIBRARY;
+use crate::samples::library;
 use std::alloc::{AllocError, Global};
 use std::test::Fail;
 use us_decl::{Decl, Library, Name};
@@ -60,10 +60,12 @@ fn is_canonical(alloc: Global, text: &[u8]) -> bool {
 }
 
 #[test]
-fn the_worked_library_is_read_and_printed(rt: HostRuntime) {
+fn the_worked_library_is_read_and_printed(rt: HostRuntime) -> Result<(), Fail> {
     let alloc = rt.alloc();
-    assert!(rt; is_library(alloc, LIBRARY.as_bytes(), 12, "hyb", 10));
-    assert!(rt; is_canonical(alloc, LIBRARY.as_bytes()));
+    let library = library(alloc)?;
+    assert!(rt; is_library(alloc, library.as_bytes(), 12, "hyb", 10));
+    assert!(rt; is_canonical(alloc, library.as_bytes()));
+    Ok(())
 }
 
 /// Texts with a fault, which is at this place.

@@ -16,6 +16,8 @@ mod declarations;
 #[cfg(test)]
 mod expressions;
 #[cfg(test)]
+mod formats;
+#[cfg(test)]
 mod matrix_files;
 #[cfg(test)]
 mod outside;

@@ -6,14 +6,13 @@ ghost use Rattle.us_decl.specs.Views.{decl_view};
 ghost use Rattle.us_judge.specs.Acceptance.{first_refusal};
 ghost use Rattle.us_judge.specs.Format.{part_at};
 ghost use Rattle.us_judge.specs.Views.{declaration_of};
-ghost use Rattle.us_top.specs.Report.{report, declaration_line, verdict_text, refusal_text, parts_text, part_text, level_text, range_text, kind_word};
+ghost use Rattle.us_top.specs.Report.{report, declaration_line, verdict_text, refusal_text, parts_text, part_text, level_text, bounds_text, end_text, kind_word};
 ghost use Rattle.us_top.specs.Views.{shape_view};
 
 use itoa::Buffer;
 use std::alloc::{AllocError, Global};
 use us_decl::{Decl, Library};
-use us_expr::Range;
-use us_judge::{Format, JudgeFault, Kind, Refusal, judge};
+use us_judge::{Format, JudgeFault, Kind, LevelBounds, Refusal, judge};
 use us_matrix::Shape;
 
 /// A line for each declaration of a library: its kinds and ranges of levels for matrices of the shape, or its refusal.
@@ -100,29 +99,40 @@ fn push_part(
 {
     for level in 0..format.levels(part) {
         let kind = format.kind(part, level);
-        let range = format.level_range(part, level, shape.rows, shape.cols);
-        push_level(out, kind, range)?;
+        let bounds = format.level_bounds(part, level, shape.rows, shape.cols);
+        push_level(out, kind, bounds)?;
     }
     Ok(())
 }
 
-fn push_level(out: &mut Vec<u8>, kind: Kind, range: Range) -> Result<(), AllocError>
-    ensures { OnOk result (out.new.items ≡ out.old.items ++ level_text kind range) }
+fn push_level(out: &mut Vec<u8>, kind: Kind, bounds: LevelBounds) -> Result<(), AllocError>
+    ensures { OnOk result (out.new.items ≡ out.old.items ++ level_text kind bounds) }
 {
     out.extend_from_slice(b" ")?;
     out.extend_from_slice(word_of(kind).as_bytes())?;
-    push_range(out, range)
+    push_bounds(out, bounds)
 }
 
-fn push_range(out: &mut Vec<u8>, range: Range) -> Result<(), AllocError>
-    ensures { OnOk result (out.new.items ≡ out.old.items ++ range_text range) }
+fn push_bounds(out: &mut Vec<u8>, bounds: LevelBounds) -> Result<(), AllocError>
+    ensures { OnOk result (out.new.items ≡ out.old.items ++ bounds_text bounds) }
 {
     let mut buffer = Buffer::new();
     out.extend_from_slice(b"[")?;
-    out.extend_from_slice(buffer.format(range.lo).as_bytes())?;
+    out.extend_from_slice(buffer.format(bounds.lo).as_bytes())?;
     out.extend_from_slice(b",")?;
-    out.extend_from_slice(buffer.format(range.hi).as_bytes())?;
+    push_end(out, bounds.hi)?;
     out.extend_from_slice(b"]")
+}
+
+// The upper end of a range, if the shape tells it.
+fn push_end(out: &mut Vec<u8>, hi: Option<i64>) -> Result<(), AllocError>
+    ensures { OnOk result (out.new.items ≡ out.old.items ++ end_text hi) }
+{
+    let mut buffer = Buffer::new();
+    match hi {
+        Some(hi) => out.extend_from_slice(buffer.format(hi).as_bytes()),
+        None => out.extend_from_slice(b"?"),
+    }
 }
 
 fn word_of(kind: Kind) -> &'static str

@@ -5,6 +5,7 @@ use Rattle.us_judge.specs.Views.{declaration_of}
 use Rattle.us_check.specs.Repeats.{IsFirstRepeat, IsInOrder, found_entries}
 use Rattle.us_check.proofs.Made.{FoundInside, found-below}
 use Rattle.us_check.proofs.ReadBack.{all-inside, collects, failed-there, first-is, repeat-below, repeat-told, unread-told}
+use Rattle.us_check.proofs.WellFormed.{fitting-told}
 use Rattle.us_check.proofs.checking.read_matrix.Goals as goal
 
 pub first_repeated-requires : goal.first_repeated-requires
@@ -22,9 +23,10 @@ climb_fault-requires c =
 
 pub returns-in-Some-clause-fault : goal.returns-in-Some-clause-fault
 returns-in-Some-clause-fault c =
-    repeat-told (plain_shape c.args.shape) (declaration_of c.args.format.now) c.args.buffers.now c.in_ok-read.read c.in_ok-read.ensures.read c.in-Some.index c.index.result.now c.climb_fault.result
+    fitting-told (plain_shape c.args.shape) (declaration_of c.args.format.now) c.args.buffers.now c.climb_fault.result c.requires.fitting c.requires.within
+    (repeat-told (plain_shape c.args.shape) (declaration_of c.args.format.now) c.args.buffers.now c.in_ok-read.read c.in_ok-read.ensures.read c.in-Some.index c.index.result.now c.climb_fault.result
     (first-is (plain_shape c.args.shape) (declaration_of c.args.format.now) c.args.buffers.now c.in_ok-read.read c.in_ok-read.ensures.read c.deref.result.now c.in_ok-index.field-0 (Some c.in-Some.index) c.deref.ensures.value c.in_ok-index.ensures c.in-Some.is)
-    c.index.ensures c.climb_fault.ensures
+    c.index.ensures c.climb_fault.ensures)
 
 pub climb_fault-requires-in-Some-failed : goal.climb_fault-requires-in-Some-failed
 climb_fault-requires-in-Some-failed c =
@@ -34,9 +36,10 @@ climb_fault-requires-in-Some-failed c =
 
 pub returns-in-Some-failed-clause-fault : goal.returns-in-Some-failed-clause-fault
 returns-in-Some-failed-clause-fault c =
-    unread-told (plain_shape c.args.shape) (declaration_of c.args.format.now) c.args.buffers.now c.in_ok-read.read c.in_ok-read.ensures.read c.in-Some-failed.position c.climb_fault-in-Some-failed.result c.in-Some-failed.is
+    fitting-told (plain_shape c.args.shape) (declaration_of c.args.format.now) c.args.buffers.now c.climb_fault-in-Some-failed.result c.requires.fitting c.requires.within
+    (unread-told (plain_shape c.args.shape) (declaration_of c.args.format.now) c.args.buffers.now c.in_ok-read.read c.in_ok-read.ensures.read c.in-Some-failed.position c.climb_fault-in-Some-failed.result c.in-Some-failed.is
     (first-is (plain_shape c.args.shape) (declaration_of c.args.format.now) c.args.buffers.now c.in_ok-read.read c.in_ok-read.ensures.read c.deref.result.now c.in_ok-index.field-0 None c.deref.ensures.value c.in_ok-index.ensures c.in_default.is)
-    c.climb_fault-in-Some-failed.ensures
+    c.climb_fault-in-Some-failed.ensures)
 
 pub matrix_of-requires-clause-inside : goal.matrix_of-requires-clause-inside
 matrix_of-requires-clause-inside c =

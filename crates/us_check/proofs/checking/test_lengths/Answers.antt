@@ -17,3 +17,6 @@ returns-in-Some c = record {
   within = tt;
   fault = checked-misfit (plain_shape c.args.shape) (declaration_of c.args.format.now) c.args.buffers.now c.in-Some.buffer (sym c.misfit.ensures ∙ c.in-Some.is);
 }
+
+pub is_within_limit-requires-clause-fitting : goal.is_within_limit-requires-clause-fitting
+is_within_limit-requires-clause-fitting c = fits-from (plain_shape c.args.shape) (declaration_of c.args.format.now) c.args.buffers.now (sym c.misfit.ensures ∙ c.in_default.is)

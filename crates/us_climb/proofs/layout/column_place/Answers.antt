@@ -19,10 +19,10 @@ returns-in-Some c =
     let pack : map column_of c.index-as_slice-pack.result ≡ nth (map (map column_of) c.args.part.now.packs) c.in-Some.pack =
     pack-there column_of c.args.part.now.packs c.in-Some.pack c.index-as_slice-pack.result below
     (c.index-as_slice-pack.is ∙ ap (λ (xs : List (List columns.Column)). get_or xs c.in-Some.pack c.index-as_slice-pack.result) c.as_slice.ensures) in
-    place-packed p (column_of c.args.column) c.args.first_pack c.in-Some.pack c.column_in.result c.len.result c.begins_some-begins.result at c.requires.first
+    place-packed c.args.first p (column_of c.args.column) c.args.first_pack c.in-Some.pack c.column_in.result c.len.result c.begins_some-begins.result at c.requires.first
     (c.column_in.ensures ∙ ap (λ (cs : List Column). position_or_len (same_column (column_of c.args.column)) cs) pack)
     (c.len.ensures ∙ sym (length-map c.index-as_slice-pack.result column_of) ∙ ap (λ (cs : List Column). length cs) pack) c.begins_some-begins.ensures
 
 pub returns-in-None : goal.returns-in-None
 returns-in-None c =
-    place-own (plain_part c.args.part.now) (column_of c.args.column) c.args.own c.begins_some-begins.result (sym c.pack_with.ensures ∙ c.in-None.is) c.requires.own c.begins_some-begins.ensures
+    place-own c.args.first (plain_part c.args.part.now) (column_of c.args.column) c.args.own c.begins_some-begins.result (sym c.pack_with.ensures ∙ c.in-None.is) c.requires.own c.begins_some-begins.ensures

@@ -1,97 +1,87 @@
-use Rattle.std.specs.Prelude.{Result, Err}
-use Rattle.us_matrix.specs.declared.buffers.Buffers.{Buffers}
-use Rattle.us_build.specs.declared.fault.BuildFault.{BuildFault}
-use Rattle.std.proofs.Common.{◌≡◌, ◌<◌, ◌≤◌, length, arith, sym, ap, subst, ◌∙◌}
-use Rattle.std.proofs.lemmas.Result.{err_from_is_err_and}
-use Rattle.us_build.specs.declared.fault.BuildFault.TheVariants.{TooLarge}
+use Rattle.std.specs.Prelude.{ℤ}
+use Rattle.std.specs.Result.{IfOk, OnOk}
+use Rattle.std.proofs.Common.{◌≡◌, ◌<◌, ◌≤◌, ℕ, List, length, map, sym, ap, subst, ◌∙◌, arith}
+use Rattle.std.proofs.lemmas.List.{length-map}
+use Rattle.us_format.specs.Buffers.{part_buffers}
+use Rattle.us_format.specs.Declaration.{Declaration}
+use Rattle.us_format.specs.Laws.{unpacked_size}
+use Rattle.us_format.specs.Packs.{written}
+use Rattle.us_format.specs.Program.{entries_in, plain_entry, shape_in}
 use Rattle.us_format.specs.Reading.{limit}
-use Rattle.us_judge.specs.Kinds.{kinds_of}
-use Rattle.us_levels.proofs.Built.{IsCase, no-queries, the_part, part-there, is-plain, piece-size-is, pieces-are, buffers-of-it, too-many, can-be-built, they-mean, unpacked-is, packs-ready, arranged-are}
-use Rattle.us_judge.proofs.SomePart.{some-part}
+use Rattle.us_format.proofs.FromProgram.{program-matrix}
+use Rattle.us_decl.specs.declared.decl.Body.TheVariants as body
+use Rattle.us_judge.specs.Format.{part_at}
+use Rattle.us_judge.specs.Views.{declaration_of, plain_body, plain_part}
+use Rattle.us_judge.proofs.LawfulDeclarations.{accepted-declaration}
+use Rattle.us_judge.proofs.Valid.{plain-is}
+use Rattle.us_levels.specs.Shared.{lists_of, sizes_of}
+use Rattle.us_levels.proofs.Joined.{all-mean, one-lists}
+use Rattle.us_levels.proofs.Sizes.{all-within, one-size}
 use Rattle.us_levels.proofs.building.build_plain.Goals as goal
 
-abbrev failed : BuildFault → Result Buffers BuildFault
-failed f = Err f
-
-same_fault : (a b : BuildFault) → failed a ≡ failed b → a ≡ b
-same_fault a b e = cc
-
 pub returns-then-entries-gt-LIMIT-clause-large : goal.returns-then-entries-gt-LIMIT-clause-large
-returns-then-entries-gt-LIMIT-clause-large c =
-    let k : IsCase c.args.format.now c.first_part-part.result.now c.args.matrix.now = record { valid = c.first_part-part.ensures.valid; accepted = c.first_part-part.ensures.accepted; part_is = c.first_part-part.ensures.is; matrix = c.entries-entries.ensures.matrix } in
-    λ h. too-many c.args.format.now c.first_part-part.result.now c.args.matrix.now k (omega (arith, c.if-entries-gt-LIMIT.true, ap length c.entries-entries.ensures.value))
+returns-then-entries-gt-LIMIT-clause-large c = λ _.
+    omega (
+      arith,
+      c.if-entries-gt-LIMIT.true,
+      ap length c.entries.ensures.value,
+      length-map c.args.matrix.now.entries plain_entry,
+      all-within (shape_in c.args.matrix.now) (declaration_of c.args.format.now) (entries_in c.args.matrix.now) (accepted-declaration c.args.format.now c.decl-decl.ensures.valid c.decl-decl.ensures.accepted) (program-matrix c.args.matrix.now c.entries.ensures.matrix),
+    )
 
-pub build_pieces-requires : goal.build_pieces-requires
-build_pieces-requires c =
-    let k : IsCase c.args.format.now c.first_part-part.result.now c.args.matrix.now = record { valid = c.first_part-part.ensures.valid; accepted = c.first_part-part.ensures.accepted; part_is = c.first_part-part.ensures.is; matrix = c.entries-entries.ensures.matrix } in
-    can-be-built c.args.format.now c.first_part-part.result.now c.args.matrix.now k c.as_slice-levels.result.now c.kinds-kinds.result.now c.as_slice-queries.result.now c.in_ok-variables.variables c.shape.result c.entries-entries.result.now c.as_slice-levels.ensures c.kinds-kinds.ensures c.as_slice-queries.ensures c.in_ok-variables.ensures c.shape.ensures.value c.entries-entries.ensures.value (omega (arith, c.if-entries-gt-LIMIT.false, ap length c.entries-entries.ensures.value))
+pub returns-in-One-clause-built : goal.returns-in-One-clause-built
+returns-in-One-clause-built c =
+    let is : declaration_of c.args.format.now ≡ plain_body (body.One c.in-One.field-0) = ap declaration_of (sym c.decl-decl.ensures.is) ∙ plain-is c.decl-decl.result.now ∙ ap plain_body c.in-One.is in
+    subst (λ (lists : List (List ℤ)). IfOk c.part_buffers.result (λ b. b ≡ lists))
+    (one-lists (shape_in c.args.matrix.now) (declaration_of c.args.format.now) (entries_in c.args.matrix.now) (plain_part c.in-One.field-0) (ap (λ (d : Declaration). d.parts) is) (ap (λ (d : Declaration). d.conds) is))
+    c.part_buffers.ensures.built
 
-pub returns-in_err-pieces-clause-large : goal.returns-in_err-pieces-clause-large
-returns-in_err-pieces-clause-large c =
-    let k : IsCase c.args.format.now c.first_part-part.result.now c.args.matrix.now = record { valid = c.first_part-part.ensures.valid; accepted = c.first_part-part.ensures.accepted; part_is = c.first_part-part.ensures.is; matrix = c.entries-entries.ensures.matrix } in
-    let plain = is-plain c.args.format.now c.first_part-part.result.now c.args.matrix.now k c.as_slice-levels.result.now c.kinds-kinds.result.now c.as_slice-queries.result.now c.in_ok-variables.variables c.shape.result c.entries-entries.result.now c.as_slice-levels.ensures c.kinds-kinds.ensures c.as_slice-queries.ensures c.in_ok-variables.ensures c.shape.ensures.value c.entries-entries.ensures.value in
-    let is = piece-size-is c.args.format.now c.first_part-part.result.now c.args.matrix.now k c.as_slice-levels.result.now c.kinds-kinds.result.now c.as_slice-queries.result.now c.in_ok-variables.variables c.shape.result c.entries-entries.result.now c.as_slice-levels.ensures c.kinds-kinds.ensures c.as_slice-queries.ensures c.in_ok-variables.ensures c.shape.ensures.value c.entries-entries.ensures.value in
-    let y = err_from_is_err_and c.from_residual-in_err-pieces.result c.from_residual-in_err-pieces.ensures.1 in
-    λ h. let e : y.0 ≡ TooLarge = same_fault y.0 TooLarge (sym y.1 ∙ h) in subst (λ n. limit < n) is (c.in_err-pieces.ensures.large (the_part c.args.format.now c.first_part-part.result.now c.args.matrix.now k) plain (sym y.2 ∙ e))
+pub returns-in-One-clause-means : goal.returns-in-One-clause-means
+returns-in-One-clause-means c =
+    let is : declaration_of c.args.format.now ≡ plain_body (body.One c.in-One.field-0) = ap declaration_of (sym c.decl-decl.ensures.is) ∙ plain-is c.decl-decl.result.now ∙ ap plain_body c.in-One.is in
+    all-mean (shape_in c.args.matrix.now) c.args.format.now (entries_in c.args.matrix.now) c.decl-decl.ensures.valid c.decl-decl.ensures.accepted (program-matrix c.args.matrix.now c.entries.ensures.matrix) c.part_buffers.result
+    (map written (part_buffers (shape_in c.args.matrix.now) (part_at (declaration_of c.args.format.now) 0) (entries_in c.args.matrix.now)))
+    (unpacked_size (shape_in c.args.matrix.now) (part_at (declaration_of c.args.format.now) 0) (entries_in c.args.matrix.now))
+    (one-lists (shape_in c.args.matrix.now) (declaration_of c.args.format.now) (entries_in c.args.matrix.now) (plain_part c.in-One.field-0) (ap (λ (d : Declaration). d.parts) is) (ap (λ (d : Declaration). d.conds) is))
+    (sym (one-size (shape_in c.args.matrix.now) (declaration_of c.args.format.now) (entries_in c.args.matrix.now) (plain_part c.in-One.field-0) (accepted-declaration c.args.format.now c.decl-decl.ensures.valid c.decl-decl.ensures.accepted) (ap (λ (d : Declaration). d.parts) is) (ap (λ (d : Declaration). d.conds) is)))
+    c.part_buffers.ensures.built c.part_buffers.ensures.small
 
-pub returns-then-is_empty-clause-built : goal.returns-then-is_empty-clause-built
-returns-then-is_empty-clause-built c =
-    let k : IsCase c.args.format.now c.first_part-part.result.now c.args.matrix.now = record { valid = c.first_part-part.ensures.valid; accepted = c.first_part-part.ensures.accepted; part_is = c.first_part-part.ensures.is; matrix = c.entries-entries.ensures.matrix } in
-    let plain = is-plain c.args.format.now c.first_part-part.result.now c.args.matrix.now k c.as_slice-levels.result.now c.kinds-kinds.result.now c.as_slice-queries.result.now c.in_ok-variables.variables c.shape.result c.entries-entries.result.now c.as_slice-levels.ensures c.kinds-kinds.ensures c.as_slice-queries.ensures c.in_ok-variables.ensures c.shape.ensures.value c.entries-entries.ensures.value in
-    let is = piece-size-is c.args.format.now c.first_part-part.result.now c.args.matrix.now k c.as_slice-levels.result.now c.kinds-kinds.result.now c.as_slice-queries.result.now c.in_ok-variables.variables c.shape.result c.entries-entries.result.now c.as_slice-levels.ensures c.kinds-kinds.ensures c.as_slice-queries.ensures c.in_ok-variables.ensures c.shape.ensures.value c.entries-entries.ensures.value in
-    c.in_ok-pieces.ensures.built (the_part c.args.format.now c.first_part-part.result.now c.args.matrix.now k) plain ∙ pieces-are c.args.format.now c.first_part-part.result.now c.args.matrix.now k c.as_slice-levels.result.now c.kinds-kinds.result.now c.as_slice-queries.result.now c.in_ok-variables.variables c.shape.result c.entries-entries.result.now c.as_slice-levels.ensures c.kinds-kinds.ensures c.as_slice-queries.ensures c.in_ok-variables.ensures c.shape.ensures.value c.entries-entries.ensures.value ∙ sym (unpacked-is c.args.format.now c.first_part-part.result.now c.args.matrix.now k (c.is_empty.ensures.0 c.if-is_empty.true)) ∙ sym (buffers-of-it c.args.format.now c.first_part-part.result.now c.args.matrix.now k)
+pub returns-in-One-clause-small : goal.returns-in-One-clause-small
+returns-in-One-clause-small c =
+    let is : declaration_of c.args.format.now ≡ plain_body (body.One c.in-One.field-0) = ap declaration_of (sym c.decl-decl.ensures.is) ∙ plain-is c.decl-decl.result.now ∙ ap plain_body c.in-One.is in
+    subst (λ (n : ℕ). OnOk c.part_buffers.result (n ≤ limit))
+    (sym (one-size (shape_in c.args.matrix.now) (declaration_of c.args.format.now) (entries_in c.args.matrix.now) (plain_part c.in-One.field-0) (accepted-declaration c.args.format.now c.decl-decl.ensures.valid c.decl-decl.ensures.accepted) (ap (λ (d : Declaration). d.parts) is) (ap (λ (d : Declaration). d.conds) is)))
+    c.part_buffers.ensures.small
 
-pub returns-then-is_empty-clause-means : goal.returns-then-is_empty-clause-means
-returns-then-is_empty-clause-means c =
-    let k : IsCase c.args.format.now c.first_part-part.result.now c.args.matrix.now = record { valid = c.first_part-part.ensures.valid; accepted = c.first_part-part.ensures.accepted; part_is = c.first_part-part.ensures.is; matrix = c.entries-entries.ensures.matrix } in
-    let plain = is-plain c.args.format.now c.first_part-part.result.now c.args.matrix.now k c.as_slice-levels.result.now c.kinds-kinds.result.now c.as_slice-queries.result.now c.in_ok-variables.variables c.shape.result c.entries-entries.result.now c.as_slice-levels.ensures c.kinds-kinds.ensures c.as_slice-queries.ensures c.in_ok-variables.ensures c.shape.ensures.value c.entries-entries.ensures.value in
-    let is = piece-size-is c.args.format.now c.first_part-part.result.now c.args.matrix.now k c.as_slice-levels.result.now c.kinds-kinds.result.now c.as_slice-queries.result.now c.in_ok-variables.variables c.shape.result c.entries-entries.result.now c.as_slice-levels.ensures c.kinds-kinds.ensures c.as_slice-queries.ensures c.in_ok-variables.ensures c.shape.ensures.value c.entries-entries.ensures.value in
-    they-mean c.args.format.now c.first_part-part.result.now c.args.matrix.now k c.in_ok-pieces.pieces (c.in_ok-pieces.ensures.built (the_part c.args.format.now c.first_part-part.result.now c.args.matrix.now k) plain ∙ pieces-are c.args.format.now c.first_part-part.result.now c.args.matrix.now k c.as_slice-levels.result.now c.kinds-kinds.result.now c.as_slice-queries.result.now c.in_ok-variables.variables c.shape.result c.entries-entries.result.now c.as_slice-levels.ensures c.kinds-kinds.ensures c.as_slice-queries.ensures c.in_ok-variables.ensures c.shape.ensures.value c.entries-entries.ensures.value ∙ sym (unpacked-is c.args.format.now c.first_part-part.result.now c.args.matrix.now k (c.is_empty.ensures.0 c.if-is_empty.true)) ∙ sym (buffers-of-it c.args.format.now c.first_part-part.result.now c.args.matrix.now k))
+pub returns-in-One-clause-large : goal.returns-in-One-clause-large
+returns-in-One-clause-large c =
+    let is : declaration_of c.args.format.now ≡ plain_body (body.One c.in-One.field-0) = ap declaration_of (sym c.decl-decl.ensures.is) ∙ plain-is c.decl-decl.result.now ∙ ap plain_body c.in-One.is in
+    λ h. subst (λ (n : ℕ). limit < n)
+    (sym (one-size (shape_in c.args.matrix.now) (declaration_of c.args.format.now) (entries_in c.args.matrix.now) (plain_part c.in-One.field-0) (accepted-declaration c.args.format.now c.decl-decl.ensures.valid c.decl-decl.ensures.accepted) (ap (λ (d : Declaration). d.parts) is) (ap (λ (d : Declaration). d.conds) is)))
+    (c.part_buffers.ensures.large h)
 
-pub returns-then-is_empty-clause-small : goal.returns-then-is_empty-clause-small
-returns-then-is_empty-clause-small c =
-    let k : IsCase c.args.format.now c.first_part-part.result.now c.args.matrix.now = record { valid = c.first_part-part.ensures.valid; accepted = c.first_part-part.ensures.accepted; part_is = c.first_part-part.ensures.is; matrix = c.entries-entries.ensures.matrix } in
-    let plain = is-plain c.args.format.now c.first_part-part.result.now c.args.matrix.now k c.as_slice-levels.result.now c.kinds-kinds.result.now c.as_slice-queries.result.now c.in_ok-variables.variables c.shape.result c.entries-entries.result.now c.as_slice-levels.ensures c.kinds-kinds.ensures c.as_slice-queries.ensures c.in_ok-variables.ensures c.shape.ensures.value c.entries-entries.ensures.value in
-    let is = piece-size-is c.args.format.now c.first_part-part.result.now c.args.matrix.now k c.as_slice-levels.result.now c.kinds-kinds.result.now c.as_slice-queries.result.now c.in_ok-variables.variables c.shape.result c.entries-entries.result.now c.as_slice-levels.ensures c.kinds-kinds.ensures c.as_slice-queries.ensures c.in_ok-variables.ensures c.shape.ensures.value c.entries-entries.ensures.value in
-    subst (λ n. n ≤ limit) is (c.in_ok-pieces.ensures.small (the_part c.args.format.now c.first_part-part.result.now c.args.matrix.now k) plain)
+pub shares_of-requires-clause-queries : goal.shares_of-requires-clause-queries
+shares_of-requires-clause-queries c =
+    let is : declaration_of c.args.format.now ≡ plain_body (body.Split c.in-Split.head c.in-Split.parts) = ap declaration_of (sym c.decl-decl.ensures.is) ∙ plain-is c.decl-decl.result.now ∙ ap plain_body c.in-Split.is in
+    ap (λ (d : Declaration). d.head) is
 
-pub arrange-requires-clause-kinds : goal.arrange-requires-clause-kinds
-arrange-requires-clause-kinds c =
-    let k : IsCase c.args.format.now c.first_part-part.result.now c.args.matrix.now = record { valid = c.first_part-part.ensures.valid; accepted = c.first_part-part.ensures.accepted; part_is = c.first_part-part.ensures.is; matrix = c.entries-entries.ensures.matrix } in
-    c.kinds-kinds.ensures ∙ ap kinds_of (sym (part-there c.args.format.now c.first_part-part.result.now c.args.matrix.now k))
+pub shares_of-requires-clause-conds : goal.shares_of-requires-clause-conds
+shares_of-requires-clause-conds c =
+    let is : declaration_of c.args.format.now ≡ plain_body (body.Split c.in-Split.head c.in-Split.parts) = ap declaration_of (sym c.decl-decl.ensures.is) ∙ plain-is c.decl-decl.result.now ∙ ap plain_body c.in-Split.is in
+    ap (λ (d : Declaration). d.conds) is
 
-pub arrange-requires-clause-packs : goal.arrange-requires-clause-packs
-arrange-requires-clause-packs c =
-    let k : IsCase c.args.format.now c.first_part-part.result.now c.args.matrix.now = record { valid = c.first_part-part.ensures.valid; accepted = c.first_part-part.ensures.accepted; part_is = c.first_part-part.ensures.is; matrix = c.entries-entries.ensures.matrix } in
-    let plain = is-plain c.args.format.now c.first_part-part.result.now c.args.matrix.now k c.as_slice-levels.result.now c.kinds-kinds.result.now c.as_slice-queries.result.now c.in_ok-variables.variables c.shape.result c.entries-entries.result.now c.as_slice-levels.ensures c.kinds-kinds.ensures c.as_slice-queries.ensures c.in_ok-variables.ensures c.shape.ensures.value c.entries-entries.ensures.value in
-    let is = piece-size-is c.args.format.now c.first_part-part.result.now c.args.matrix.now k c.as_slice-levels.result.now c.kinds-kinds.result.now c.as_slice-queries.result.now c.in_ok-variables.variables c.shape.result c.entries-entries.result.now c.as_slice-levels.ensures c.kinds-kinds.ensures c.as_slice-queries.ensures c.in_ok-variables.ensures c.shape.ensures.value c.entries-entries.ensures.value in
-    packs-ready c.args.format.now c.first_part-part.result.now c.args.matrix.now k _ (c.in_ok-pieces.ensures.built (the_part c.args.format.now c.first_part-part.result.now c.args.matrix.now k) plain ∙ pieces-are c.args.format.now c.first_part-part.result.now c.args.matrix.now k c.as_slice-levels.result.now c.kinds-kinds.result.now c.as_slice-queries.result.now c.in_ok-variables.variables c.shape.result c.entries-entries.result.now c.as_slice-levels.ensures c.kinds-kinds.ensures c.as_slice-queries.ensures c.in_ok-variables.ensures c.shape.ensures.value c.entries-entries.ensures.value)
+pub returns-in_ok-shares-in-Split-clause-built : goal.returns-in_ok-shares-in-Split-clause-built
+returns-in_ok-shares-in-Split-clause-built c =
+    subst (λ (lists : List (List ℤ)). IfOk c.build_parts.result (λ b. b ≡ lists)) c.in_ok-shares-in-Split.ensures.lists c.build_parts.ensures.built
 
-pub returns-clause-built : goal.returns-clause-built
-returns-clause-built c =
-    let k : IsCase c.args.format.now c.first_part-part.result.now c.args.matrix.now = record { valid = c.first_part-part.ensures.valid; accepted = c.first_part-part.ensures.accepted; part_is = c.first_part-part.ensures.is; matrix = c.entries-entries.ensures.matrix } in
-    let plain = is-plain c.args.format.now c.first_part-part.result.now c.args.matrix.now k c.as_slice-levels.result.now c.kinds-kinds.result.now c.as_slice-queries.result.now c.in_ok-variables.variables c.shape.result c.entries-entries.result.now c.as_slice-levels.ensures c.kinds-kinds.ensures c.as_slice-queries.ensures c.in_ok-variables.ensures c.shape.ensures.value c.entries-entries.ensures.value in
-    let is = piece-size-is c.args.format.now c.first_part-part.result.now c.args.matrix.now k c.as_slice-levels.result.now c.kinds-kinds.result.now c.as_slice-queries.result.now c.in_ok-variables.variables c.shape.result c.entries-entries.result.now c.as_slice-levels.ensures c.kinds-kinds.ensures c.as_slice-queries.ensures c.in_ok-variables.ensures c.shape.ensures.value c.entries-entries.ensures.value in
-    arranged-are c.args.format.now c.first_part-part.result.now c.args.matrix.now k _ _ (c.in_ok-pieces.ensures.built (the_part c.args.format.now c.first_part-part.result.now c.args.matrix.now k) plain ∙ pieces-are c.args.format.now c.first_part-part.result.now c.args.matrix.now k c.as_slice-levels.result.now c.kinds-kinds.result.now c.as_slice-queries.result.now c.in_ok-variables.variables c.shape.result c.entries-entries.result.now c.as_slice-levels.ensures c.kinds-kinds.ensures c.as_slice-queries.ensures c.in_ok-variables.ensures c.shape.ensures.value c.entries-entries.ensures.value) c.in_ok-arrange.ensures
+pub returns-in_ok-shares-in-Split-clause-means : goal.returns-in_ok-shares-in-Split-clause-means
+returns-in_ok-shares-in-Split-clause-means c =
+    all-mean (shape_in c.args.matrix.now) c.args.format.now (entries_in c.args.matrix.now) c.decl-decl.ensures.valid c.decl-decl.ensures.accepted (program-matrix c.args.matrix.now c.entries.ensures.matrix) c.build_parts.result
+    (lists_of (declaration_of c.args.format.now).parts c.in_ok-shares-in-Split.shares) (sizes_of (declaration_of c.args.format.now).parts c.in_ok-shares-in-Split.shares) c.in_ok-shares-in-Split.ensures.lists
+    c.in_ok-shares-in-Split.ensures.sizes c.build_parts.ensures.built c.build_parts.ensures.small
 
-pub returns-clause-means : goal.returns-clause-means
-returns-clause-means c =
-    let k : IsCase c.args.format.now c.first_part-part.result.now c.args.matrix.now = record { valid = c.first_part-part.ensures.valid; accepted = c.first_part-part.ensures.accepted; part_is = c.first_part-part.ensures.is; matrix = c.entries-entries.ensures.matrix } in
-    let plain = is-plain c.args.format.now c.first_part-part.result.now c.args.matrix.now k c.as_slice-levels.result.now c.kinds-kinds.result.now c.as_slice-queries.result.now c.in_ok-variables.variables c.shape.result c.entries-entries.result.now c.as_slice-levels.ensures c.kinds-kinds.ensures c.as_slice-queries.ensures c.in_ok-variables.ensures c.shape.ensures.value c.entries-entries.ensures.value in
-    let is = piece-size-is c.args.format.now c.first_part-part.result.now c.args.matrix.now k c.as_slice-levels.result.now c.kinds-kinds.result.now c.as_slice-queries.result.now c.in_ok-variables.variables c.shape.result c.entries-entries.result.now c.as_slice-levels.ensures c.kinds-kinds.ensures c.as_slice-queries.ensures c.in_ok-variables.ensures c.shape.ensures.value c.entries-entries.ensures.value in
-    they-mean c.args.format.now c.first_part-part.result.now c.args.matrix.now k c.in_ok-arrange.field-0 (arranged-are c.args.format.now c.first_part-part.result.now c.args.matrix.now k _ _ (c.in_ok-pieces.ensures.built (the_part c.args.format.now c.first_part-part.result.now c.args.matrix.now k) plain ∙ pieces-are c.args.format.now c.first_part-part.result.now c.args.matrix.now k c.as_slice-levels.result.now c.kinds-kinds.result.now c.as_slice-queries.result.now c.in_ok-variables.variables c.shape.result c.entries-entries.result.now c.as_slice-levels.ensures c.kinds-kinds.ensures c.as_slice-queries.ensures c.in_ok-variables.ensures c.shape.ensures.value c.entries-entries.ensures.value) c.in_ok-arrange.ensures)
+pub returns-in_ok-shares-in-Split-clause-small : goal.returns-in_ok-shares-in-Split-clause-small
+returns-in_ok-shares-in-Split-clause-small c = subst (λ (n : ℕ). OnOk c.build_parts.result (n ≤ limit)) c.in_ok-shares-in-Split.ensures.sizes c.build_parts.ensures.small
 
-pub returns-clause-small : goal.returns-clause-small
-returns-clause-small c =
-    let k : IsCase c.args.format.now c.first_part-part.result.now c.args.matrix.now = record { valid = c.first_part-part.ensures.valid; accepted = c.first_part-part.ensures.accepted; part_is = c.first_part-part.ensures.is; matrix = c.entries-entries.ensures.matrix } in
-    let plain = is-plain c.args.format.now c.first_part-part.result.now c.args.matrix.now k c.as_slice-levels.result.now c.kinds-kinds.result.now c.as_slice-queries.result.now c.in_ok-variables.variables c.shape.result c.entries-entries.result.now c.as_slice-levels.ensures c.kinds-kinds.ensures c.as_slice-queries.ensures c.in_ok-variables.ensures c.shape.ensures.value c.entries-entries.ensures.value in
-    let is = piece-size-is c.args.format.now c.first_part-part.result.now c.args.matrix.now k c.as_slice-levels.result.now c.kinds-kinds.result.now c.as_slice-queries.result.now c.in_ok-variables.variables c.shape.result c.entries-entries.result.now c.as_slice-levels.ensures c.kinds-kinds.ensures c.as_slice-queries.ensures c.in_ok-variables.ensures c.shape.ensures.value c.entries-entries.ensures.value in
-    subst (λ n. n ≤ limit) is (c.in_ok-pieces.ensures.small (the_part c.args.format.now c.first_part-part.result.now c.args.matrix.now k) plain)
-
-pub kinds-kinds-requires-clause-part : goal.kinds-kinds-requires-clause-part
-kinds-kinds-requires-clause-part c = some-part c.args.format.now c.first_part-part.ensures.valid
-
-pub variables_of-requires-clause-queries : goal.variables_of-requires-clause-queries
-variables_of-requires-clause-queries c =
-    let k : IsCase c.args.format.now c.first_part-part.result.now c.args.matrix.now = record { valid = c.first_part-part.ensures.valid; accepted = c.first_part-part.ensures.accepted; part_is = c.first_part-part.ensures.is; matrix = c.entries-entries.ensures.matrix } in
-    no-queries c.args.format.now c.first_part-part.result.now c.args.matrix.now k
+pub returns-in_ok-shares-in-Split-clause-large : goal.returns-in_ok-shares-in-Split-clause-large
+returns-in_ok-shares-in-Split-clause-large c = λ h. subst (λ (n : ℕ). limit < n) c.in_ok-shares-in-Split.ensures.sizes (c.build_parts.ensures.large h)

@@ -1,41 +1,43 @@
-use Rattle.std.specs.Prelude.{min}
-use Rattle.std.proofs.Common.{◌≡◌, ◌+◌, length, arith, ap, ◌∙◌}
-use Rattle.us_format.specs.Buffers.{size}
-use Rattle.us_format.specs.Program.{shape_in, entries_in}
+use Rattle.std.specs.Result.{IfOk}
+use Rattle.std.proofs.Common.{◌≡◌, ◌+◌, length, min, sym, ap, subst, ◌∙◌, arith}
+use Rattle.std.proofs.lemmas.List.{length-map}
+use Rattle.us_format.specs.Declaration.{Declaration}
+use Rattle.us_format.specs.Program.{entries_in, plain_entry, shape_in}
 use Rattle.us_format.specs.Reading.{limit}
-use Rattle.us_judge.specs.Views.{declaration_of}
-use Rattle.us_levels.proofs.Built.{IsCase, no-queries, the_part, is-plain, piece-size-is, too-many, can-be-built}
-use Rattle.std.proofs.lemmas.Result.{IfOk-weaker}
-use Rattle.us_judge.proofs.SomePart.{some-part}
+use Rattle.us_format.proofs.FromProgram.{program-matrix}
+use Rattle.us_decl.specs.declared.decl.Body.TheVariants as body
+use Rattle.us_judge.specs.Views.{declaration_of, plain_body, plain_part}
+use Rattle.us_judge.proofs.LawfulDeclarations.{accepted-declaration}
+use Rattle.us_judge.proofs.Valid.{plain-is}
+use Rattle.us_levels.proofs.Sizes.{all-within, one-size}
 use Rattle.us_levels.proofs.building.size_of.Goals as goal
 
 pub returns-then-entries-gt-LIMIT : goal.returns-then-entries-gt-LIMIT
 returns-then-entries-gt-LIMIT c =
-    let k : IsCase c.args.format.now c.first_part-part.result.now c.args.matrix.now = record { valid = c.first_part-part.ensures.valid; accepted = c.first_part-part.ensures.accepted; part_is = c.first_part-part.ensures.is; matrix = c.entries-entries.ensures.matrix } in
     omega (
       arith,
-      too-many c.args.format.now c.first_part-part.result.now c.args.matrix.now k (omega (arith, c.if-entries-gt-LIMIT.true, ap length c.entries-entries.ensures.value)),
+      c.if-entries-gt-LIMIT.true,
+      ap length c.entries.ensures.value,
+      length-map c.args.matrix.now.entries plain_entry,
+      all-within (shape_in c.args.matrix.now) (declaration_of c.args.format.now) (entries_in c.args.matrix.now) (accepted-declaration c.args.format.now c.decl-decl.ensures.valid c.decl-decl.ensures.accepted) (program-matrix c.args.matrix.now c.entries.ensures.matrix),
     )
 
-pub size_of_pieces-requires : goal.size_of_pieces-requires
-size_of_pieces-requires c =
-    let k : IsCase c.args.format.now c.first_part-part.result.now c.args.matrix.now = record { valid = c.first_part-part.ensures.valid; accepted = c.first_part-part.ensures.accepted; part_is = c.first_part-part.ensures.is; matrix = c.entries-entries.ensures.matrix } in
-    can-be-built c.args.format.now c.first_part-part.result.now c.args.matrix.now k c.as_slice-levels.result.now c.kinds-kinds.result.now c.as_slice-queries.result.now c.in_ok-variables.variables c.shape.result c.entries-entries.result.now
-    c.as_slice-levels.ensures c.kinds-kinds.ensures c.as_slice-queries.ensures c.in_ok-variables.ensures c.shape.ensures.value c.entries-entries.ensures.value (omega (arith, c.if-entries-gt-LIMIT.false, ap length c.entries-entries.ensures.value))
+pub shares_of-requires-clause-queries : goal.shares_of-requires-clause-queries
+shares_of-requires-clause-queries c =
+    let is : declaration_of c.args.format.now ≡ plain_body (body.Split c.in-Split.head c.in-Split.parts) = ap declaration_of (sym c.decl-decl.ensures.is) ∙ plain-is c.decl-decl.result.now ∙ ap plain_body c.in-Split.is in
+    ap (λ (d : Declaration). d.head) is
 
-pub returns : goal.returns
-returns c =
-    let k : IsCase c.args.format.now c.first_part-part.result.now c.args.matrix.now = record { valid = c.first_part-part.ensures.valid; accepted = c.first_part-part.ensures.accepted; part_is = c.first_part-part.ensures.is; matrix = c.entries-entries.ensures.matrix } in
-    let plain = is-plain c.args.format.now c.first_part-part.result.now c.args.matrix.now k c.as_slice-levels.result.now c.kinds-kinds.result.now c.as_slice-queries.result.now c.in_ok-variables.variables c.shape.result c.entries-entries.result.now
-    c.as_slice-levels.ensures c.kinds-kinds.ensures c.as_slice-queries.ensures c.in_ok-variables.ensures c.shape.ensures.value c.entries-entries.ensures.value in
-    let is = piece-size-is c.args.format.now c.first_part-part.result.now c.args.matrix.now k c.as_slice-levels.result.now c.kinds-kinds.result.now c.as_slice-queries.result.now c.in_ok-variables.variables c.shape.result c.entries-entries.result.now
-    c.as_slice-levels.ensures c.kinds-kinds.ensures c.as_slice-queries.ensures c.in_ok-variables.ensures c.shape.ensures.value c.entries-entries.ensures.value in
-    IfOk-weaker c.size_of_pieces.result _ (λ n. n ≡ min (size (shape_in c.args.matrix.now) (declaration_of c.args.format.now) (entries_in c.args.matrix.now)) (limit + 1)) (λ n h. h (the_part c.args.format.now c.first_part-part.result.now c.args.matrix.now k) plain ∙ ap (λ z. min z (limit + 1)) is) c.size_of_pieces.ensures
+pub shares_of-requires-clause-conds : goal.shares_of-requires-clause-conds
+shares_of-requires-clause-conds c =
+    let is : declaration_of c.args.format.now ≡ plain_body (body.Split c.in-Split.head c.in-Split.parts) = ap declaration_of (sym c.decl-decl.ensures.is) ∙ plain-is c.decl-decl.result.now ∙ ap plain_body c.in-Split.is in
+    ap (λ (d : Declaration). d.conds) is
 
-pub kinds-kinds-requires-clause-part : goal.kinds-kinds-requires-clause-part
-kinds-kinds-requires-clause-part c = some-part c.args.format.now c.first_part-part.ensures.valid
+pub returns-in-One : goal.returns-in-One
+returns-in-One c =
+    let is : declaration_of c.args.format.now ≡ plain_body (body.One c.in-One.field-0) = ap declaration_of (sym c.decl-decl.ensures.is) ∙ plain-is c.decl-decl.result.now ∙ ap plain_body c.in-One.is in
+    subst (λ n. IfOk c.part_size.result (λ r. r ≡ min n (limit + 1)))
+    (sym (one-size (shape_in c.args.matrix.now) (declaration_of c.args.format.now) (entries_in c.args.matrix.now) (plain_part c.in-One.field-0) (accepted-declaration c.args.format.now c.decl-decl.ensures.valid c.decl-decl.ensures.accepted) (ap (λ (d : Declaration). d.parts) is) (ap (λ (d : Declaration). d.conds) is)))
+    c.part_size.ensures
 
-pub variables_of-requires-clause-queries : goal.variables_of-requires-clause-queries
-variables_of-requires-clause-queries c =
-    let k : IsCase c.args.format.now c.first_part-part.result.now c.args.matrix.now = record { valid = c.first_part-part.ensures.valid; accepted = c.first_part-part.ensures.accepted; part_is = c.first_part-part.ensures.is; matrix = c.entries-entries.ensures.matrix } in
-    no-queries c.args.format.now c.first_part-part.result.now c.args.matrix.now k
+pub returns-in_ok-shares-in-Split : goal.returns-in_ok-shares-in-Split
+returns-in_ok-shares-in-Split c = subst (λ n. IfOk c.size_of_parts.result (λ r. r ≡ min n (limit + 1))) c.in_ok-shares-in-Split.ensures.sizes c.size_of_parts.ensures

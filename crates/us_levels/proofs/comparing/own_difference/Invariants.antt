@@ -5,4 +5,4 @@ use Rattle.us_levels.proofs.Owning.{AreOwn}
 use Rattle.us_levels.proofs.comparing.own_difference.Given as goal
 
 abbrev pub invariant-loop-k : goal.invariant-loop-k
-invariant-loop-k l = AreOwn (plain_part l.part) (map plain_piece l.names) l.lists l.buffers l.first l.k l.place
+invariant-loop-k l = AreOwn (plain_part l.part) l.base (map plain_piece l.names) l.lists l.buffers l.first l.k l.place

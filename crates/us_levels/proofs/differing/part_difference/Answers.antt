@@ -1,151 +1,97 @@
-use Rattle.std.proofs.Common.{◌≡◌, ◌<◌, ◌++◌, ◌∷◌, ℕ, ℤ, List, [], length, map, Option, None, ap₂, sym, refl, ap, subst, ◌∙◌, arith}
-use Rattle.std.specs.List.{filter}
-use Rattle.std.proofs.lemmas.Bool.{false≢true}
-use Rattle.std.proofs.lemmas.List.{append-nil, length-map}
+use Rattle.std.proofs.Common.{◌≡◌, ◌+◌, ◌++◌, List, ℤ, map, Option, refl, sym, ap, ◌∙◌, arith}
 use Rattle.std.proofs.lemmas.Result.{IfOk-weaker}
-use Rattle.us_format.specs.Buffers.{level_buffers, piece_buffers}
-use Rattle.us_format.specs.Declaration.{Part}
-use Rattle.us_format.specs.Matrix.{Entry, Shape}
-use Rattle.us_format.specs.Packs.{Piece, pieces, written}
+use Rattle.us_format.specs.Declaration.{query_of}
 use Rattle.us_format.specs.Program.{entries_in, shape_in}
 use Rattle.us_judge.specs.Views.{plain_part}
-use Rattle.us_build.specs.Ways.{Way, first_buffers, way_below}
-use Rattle.us_layout.specs.Arranging.{PacksHaveOneLength, plain_piece}
-use Rattle.us_layout.proofs.Arranged.{packs-fit}
+use Rattle.us_variables.specs.Counted.{tables_in}
+use Rattle.us_parts.specs.Cells.{extent_lists, table_lists}
 use Rattle.us_levels.specs.declared.differing.Difference.{Difference}
-use Rattle.us_levels.specs.Lists.{lists_difference, own_lists}
-use Rattle.us_levels.proofs.Owning.{is_own}
-use Rattle.us_levels.proofs.Starting.{started, walkable}
-use Rattle.us_levels.proofs.Walked.{IsCompared, compared-end, compared-front, compared-next, compared-same, compared-short, few-names, found-early, found-late, one-length, none-found, own-of, pack_cells-are, pack_cells_of, pack_lists_of, same-names, whole_difference}
+use Rattle.us_levels.specs.Differences.{part_difference, stored_difference}
+use Rattle.us_levels.proofs.Partwise.{all-countable, extents-found, extents-low, extents-many, few-first, few-second, few-triples, low-base, part-early, part-last, part-then, stored-from, tables-found, tables-low, tables-many}
 use Rattle.us_levels.proofs.differing.part_difference.Goals as goal
 
-pub walk_of-requires-clause-walkable : goal.walk_of-requires-clause-walkable
-walk_of-requires-clause-walkable c = walkable (shape_in c.args.matrix.now) (plain_part c.args.part.now) (entries_in c.args.matrix.now) c.args.buffers.now c.requires.comparable
+pub variables_of-requires-clause-countable : goal.variables_of-requires-clause-countable
+variables_of-requires-clause-countable c =
+    all-countable c.args.part.now c.args.matrix.now c.args.first c.args.buffers.now c.requires.comparable
 
-pub loop-walk-init : goal.loop-walk-init
-loop-walk-init c =
-    started (shape_in c.args.matrix.now) (plain_part c.args.part.now) (entries_in c.args.matrix.now) c.args.buffers.now c.requires.comparable c.in_ok-walk.walk c.new-lists.result c.new-lists.ensures c.in_ok-walk.ensures
+pub variables_of-requires-clause-few : goal.variables_of-requires-clause-few
+variables_of-requires-clause-few c =
+    few-triples c.args.part.now c.args.matrix.now c.args.first c.args.buffers.now c.requires.comparable
 
-pub returns-then-is_too_long : goal.returns-then-is_too_long
-returns-then-is_too_long c =
-    let s : Shape = shape_in c.args.matrix.now in
-    let p : Part = plain_part c.args.part.now in
-    let m : List Entry = entries_in c.args.matrix.now in
-    let bufs : List (List ℤ) = c.args.buffers.now in
-    let h : 0 < length c.loop-walk.walk.levels = c.is_done.ensures.left c.loop-walk-test.true in
-    absurd (false≢true (sym (compared-short s p m bufs c.loop-walk.walk c.loop-walk.lists h c.loop-walk.invariant) ∙ sym c.is_too_long.ensures ∙ c.if-is_too_long.true))
+pub push_extents-requires-clause-extents : goal.push_extents-requires-clause-extents
+push_extents-requires-clause-extents c =
+    extents-many c.args.part.now c.args.matrix.now c.args.first c.args.buffers.now c.requires.comparable c.in_ok-variables.variables c.in_ok-variables.ensures c.as_slice-queries.result.now c.as_slice-queries.ensures c.extents.result.now c.extents.ensures
 
-pub own_difference-found-requires-clause-few : goal.own_difference-found-requires-clause-few
-own_difference-found-requires-clause-few c =
-    let s : Shape = shape_in c.args.matrix.now in
-    let p : Part = plain_part c.args.part.now in
-    let m : List Entry = entries_in c.args.matrix.now in
-    let bufs : List (List ℤ) = c.args.buffers.now in
-    let h : 0 < length c.loop-walk.walk.levels = c.is_done.ensures.left c.loop-walk-test.true in
-    let e : c.step.new.lists ≡ c.loop-walk.lists ++ map written (first_buffers c.loop-walk.walk.levels c.loop-walk.walk.positions c.loop-walk.walk.rows) = c.in_ok-step.ensures.lists in
-    let front = compared-front s p m bufs c.loop-walk.walk c.loop-walk.lists h c.loop-walk.invariant in
-    let whole : c.step.new.lists ++ front.0 ≡ map written (piece_buffers s p m) = ap (λ (ls : List (List ℤ)). ls ++ front.0) e ∙ front.1 in
-    let xs : map plain_piece c.deref.result.now ≡ pieces p = same-names p c.deref.result.now c.in_ok-names.names.items c.args.kinds.now c.deref.ensures.value c.in_ok-names.ensures c.requires.kinds in
-    omega (arith, few-names s p m c.requires.comparable.packs c.step.new.lists front.0 (map plain_piece c.deref.result.now) whole xs, length-map c.deref.result.now plain_piece)
+pub push_extents-requires-clause-small : goal.push_extents-requires-clause-small
+push_extents-requires-clause-small c =
+    extents-low c.args.part.now c.args.matrix.now c.args.first c.args.buffers.now c.requires.comparable c.in_ok-variables.variables c.in_ok-variables.ensures c.as_slice-queries.result.now c.as_slice-queries.ensures c.extents.result.now c.extents.ensures
+
+pub lists_difference-unlike-requires : goal.lists_difference-unlike-requires
+lists_difference-unlike-requires c =
+    let is = extents-found c.args.part.now c.args.matrix.now c.args.first c.args.buffers.now c.requires.comparable c.in_ok-variables.variables c.in_ok-variables.ensures c.as_slice-queries.result.now c.as_slice-queries.ensures c.extents.result.now c.push_extents.new.lists c.extents.ensures (c.in_ok-push_extents.ensures ∙ ap (λ (l : List (List ℤ)). l ++ extent_lists (map query_of c.as_slice-queries.result.now) c.extents.result.now) c.new-extents.ensures) in
+    omega (arith, c.requires.room, few-first c.args.part.now c.args.matrix.now c.args.first c.args.buffers.now c.requires.comparable c.in_ok-variables.variables c.in_ok-variables.ensures c.as_slice-queries.result.now c.as_slice-queries.ensures c.push_extents.new.lists is)
 
 pub returns-then-is_some : goal.returns-then-is_some
 returns-then-is_some c =
-    let s : Shape = shape_in c.args.matrix.now in
-    let p : Part = plain_part c.args.part.now in
-    let m : List Entry = entries_in c.args.matrix.now in
-    let bufs : List (List ℤ) = c.args.buffers.now in
-    let h : 0 < length c.loop-walk.walk.levels = c.is_done.ensures.left c.loop-walk-test.true in
-    let e : c.step.new.lists ≡ c.loop-walk.lists ++ map written (first_buffers c.loop-walk.walk.levels c.loop-walk.walk.positions c.loop-walk.walk.rows) = c.in_ok-step.ensures.lists in
-    let front = compared-front s p m bufs c.loop-walk.walk c.loop-walk.lists h c.loop-walk.invariant in
-    let whole : c.step.new.lists ++ front.0 ≡ map written (piece_buffers s p m) = ap (λ (ls : List (List ℤ)). ls ++ front.0) e ∙ front.1 in
-    let xs : map plain_piece c.deref.result.now ≡ pieces p = same-names p c.deref.result.now c.in_ok-names.names.items c.args.kinds.now c.deref.ensures.value c.in_ok-names.ensures c.requires.kinds in
-    let own : c.own_difference-found.result ≡ lists_difference 0 (own_lists p (pieces p) c.step.new.lists) bufs =
-    own-of p bufs c.loop-walk.lists (map written (first_buffers c.loop-walk.walk.levels c.loop-walk.walk.positions c.loop-walk.walk.rows)) c.step.new.lists (map plain_piece c.deref.result.now) c.count-first.result c.own_difference-found.result
-    (compared-same s p m bufs c.loop-walk.walk c.loop-walk.lists c.loop-walk.invariant) e xs c.count-first.ensures c.own_difference-found.ensures in
-    found-early s p m bufs c.requires.comparable.packs c.step.new.lists front.0 c.own_difference-found.result whole own (sym c.is_some.ensures ∙ c.if-is_some.true)
+    let is = extents-found c.args.part.now c.args.matrix.now c.args.first c.args.buffers.now c.requires.comparable c.in_ok-variables.variables c.in_ok-variables.ensures c.as_slice-queries.result.now c.as_slice-queries.ensures c.extents.result.now c.push_extents.new.lists c.extents.ensures (c.in_ok-push_extents.ensures ∙ ap (λ (l : List (List ℤ)). l ++ extent_lists (map query_of c.as_slice-queries.result.now) c.extents.result.now) c.new-extents.ensures) in
+    part-early c.args.part.now c.args.matrix.now c.args.first c.args.buffers.now c.requires.comparable c.in_ok-variables.variables c.in_ok-variables.ensures c.as_slice-queries.result.now c.as_slice-queries.ensures c.push_extents.new.lists is c.lists_difference-unlike.result c.lists_difference-unlike.ensures (sym c.is_some.ensures ∙ c.if-is_some.true)
 
-pub loop-walk-preserved : goal.loop-walk-preserved
-loop-walk-preserved c =
-    let s : Shape = shape_in c.args.matrix.now in
-    let p : Part = plain_part c.args.part.now in
-    let m : List Entry = entries_in c.args.matrix.now in
-    let bufs : List (List ℤ) = c.args.buffers.now in
-    let h : 0 < length c.loop-walk.walk.levels = c.is_done.ensures.left c.loop-walk-test.true in
-    let e : c.step.new.lists ≡ c.loop-walk.lists ++ map written (first_buffers c.loop-walk.walk.levels c.loop-walk.walk.positions c.loop-walk.walk.rows) = c.in_ok-step.ensures.lists in
-    let front = compared-front s p m bufs c.loop-walk.walk c.loop-walk.lists h c.loop-walk.invariant in
-    let whole : c.step.new.lists ++ front.0 ≡ map written (piece_buffers s p m) = ap (λ (ls : List (List ℤ)). ls ++ front.0) e ∙ front.1 in
-    let xs : map plain_piece c.deref.result.now ≡ pieces p = same-names p c.deref.result.now c.in_ok-names.names.items c.args.kinds.now c.deref.ensures.value c.in_ok-names.ensures c.requires.kinds in
-    let own : c.own_difference-found.result ≡ lists_difference 0 (own_lists p (pieces p) c.step.new.lists) bufs =
-    own-of p bufs c.loop-walk.lists (map written (first_buffers c.loop-walk.walk.levels c.loop-walk.walk.positions c.loop-walk.walk.rows)) c.step.new.lists (map plain_piece c.deref.result.now) c.count-first.result c.own_difference-found.result
-    (compared-same s p m bufs c.loop-walk.walk c.loop-walk.lists c.loop-walk.invariant) e xs c.count-first.ensures c.own_difference-found.ensures in
-    let none : lists_difference 0 (own_lists p (pieces p) c.step.new.lists) bufs ≡ None = none-found c.own_difference-found.result _ own (sym c.is_some.ensures ∙ c.if-is_some.false) in
-    subst (λ (w : Way). IsCompared s p m bufs w c.step.new.lists) (sym c.in_ok-step.ensures.below)
-    (subst (λ (ls : List (List ℤ)). IsCompared s p m bufs (way_below c.loop-walk.walk.levels c.loop-walk.walk.positions c.loop-walk.walk.rows) ls) (sym e)
-    (compared-next s p m bufs c.loop-walk.walk c.loop-walk.lists h c.loop-walk.invariant c.requires.comparable.kept c.requires.comparable.queries
-    (ap (λ (ls : List (List ℤ)). lists_difference 0 (own_lists p (pieces p) ls) bufs) (sym e) ∙ none)))
+pub push_tables-requires-clause-tables : goal.push_tables-requires-clause-tables
+push_tables-requires-clause-tables c =
+    tables-many c.args.part.now c.args.matrix.now c.args.first c.args.buffers.now c.requires.comparable c.in_ok-variables.variables c.in_ok-variables.ensures c.as_slice-queries.result.now c.as_slice-queries.ensures
 
-pub own_difference-found-requires-2-clause-few : goal.own_difference-found-requires-2-clause-few
-own_difference-found-requires-2-clause-few c =
-    let s : Shape = shape_in c.args.matrix.now in
-    let p : Part = plain_part c.args.part.now in
-    let m : List Entry = entries_in c.args.matrix.now in
-    let bufs : List (List ℤ) = c.args.buffers.now in
-    let none : c.loop-walk.walk.levels ≡ [] = c.is_done.ensures.done c.loop-walk-test.false in
-    let e : c.push.new.self ≡ c.loop-walk.lists ++ map written (level_buffers [] c.loop-walk.walk.positions c.loop-walk.walk.rows) =
-    c.in_ok-push.ensures.ok ∙ ap (λ (l : List ℤ). c.loop-walk.lists ++ l ∷ []) c.in_ok-values.ensures in
-    let whole : c.push.new.self ≡ map written (piece_buffers s p m) = e ∙ compared-end s p m bufs c.loop-walk.walk c.loop-walk.lists none c.loop-walk.invariant in
-    let xs : map plain_piece c.deref-2.result.now ≡ pieces p = same-names p c.deref-2.result.now c.in_ok-names.names.items c.args.kinds.now c.deref-2.ensures.value c.in_ok-names.ensures c.requires.kinds in
-    omega (arith, few-names s p m c.requires.comparable.packs c.push.new.self [] (map plain_piece c.deref-2.result.now) (append-nil c.push.new.self ∙ whole) xs, length-map c.deref-2.result.now plain_piece)
+pub push_tables-requires-clause-small : goal.push_tables-requires-clause-small
+push_tables-requires-clause-small c =
+    let is = extents-found c.args.part.now c.args.matrix.now c.args.first c.args.buffers.now c.requires.comparable c.in_ok-variables.variables c.in_ok-variables.ensures c.as_slice-queries.result.now c.as_slice-queries.ensures c.extents.result.now c.push_extents.new.lists c.extents.ensures (c.in_ok-push_extents.ensures ∙ ap (λ (l : List (List ℤ)). l ++ extent_lists (map query_of c.as_slice-queries.result.now) c.extents.result.now) c.new-extents.ensures) in
+    tables-low c.args.part.now c.args.matrix.now c.args.first c.args.buffers.now c.requires.comparable c.in_ok-variables.variables c.in_ok-variables.ensures c.as_slice-queries.result.now c.as_slice-queries.ensures c.push_extents.new.lists is c.lists_difference-unlike.result c.lists_difference-unlike.ensures (sym c.is_some.ensures ∙ c.if-is_some.false)
+
+pub overflow_add-second : goal.overflow_add-second
+overflow_add-second c =
+    let is = extents-found c.args.part.now c.args.matrix.now c.args.first c.args.buffers.now c.requires.comparable c.in_ok-variables.variables c.in_ok-variables.ensures c.as_slice-queries.result.now c.as_slice-queries.ensures c.extents.result.now c.push_extents.new.lists c.extents.ensures (c.in_ok-push_extents.ensures ∙ ap (λ (l : List (List ℤ)). l ++ extent_lists (map query_of c.as_slice-queries.result.now) c.extents.result.now) c.new-extents.ensures) in
+    record {
+      fits = omega (arith, c.requires.room, c.count-many.ensures, few-first c.args.part.now c.args.matrix.now c.args.first c.args.buffers.now c.requires.comparable c.in_ok-variables.variables c.in_ok-variables.ensures c.as_slice-queries.result.now c.as_slice-queries.ensures c.push_extents.new.lists is);
+    }
+
+pub lists_difference-found-requires : goal.lists_difference-found-requires
+lists_difference-found-requires c =
+    let is = extents-found c.args.part.now c.args.matrix.now c.args.first c.args.buffers.now c.requires.comparable c.in_ok-variables.variables c.in_ok-variables.ensures c.as_slice-queries.result.now c.as_slice-queries.ensures c.extents.result.now c.push_extents.new.lists c.extents.ensures (c.in_ok-push_extents.ensures ∙ ap (λ (l : List (List ℤ)). l ++ extent_lists (map query_of c.as_slice-queries.result.now) c.extents.result.now) c.new-extents.ensures) in
+    let are = tables-found c.args.part.now c.args.matrix.now c.args.first c.args.buffers.now c.requires.comparable c.in_ok-variables.variables c.in_ok-variables.ensures c.as_slice-queries.result.now c.as_slice-queries.ensures c.push_tables.new.lists (c.in_ok-push_tables.ensures ∙ ap (λ (l : List (List ℤ)). l ++ table_lists (map query_of c.as_slice-queries.result.now) (tables_in c.in_ok-variables.variables)) c.new-tables.ensures) in
+    omega (arith, c.requires.room, c.count-many.ensures, few-first c.args.part.now c.args.matrix.now c.args.first c.args.buffers.now c.requires.comparable c.in_ok-variables.variables c.in_ok-variables.ensures c.as_slice-queries.result.now c.as_slice-queries.ensures c.push_extents.new.lists is, few-second c.args.part.now c.args.matrix.now c.args.first c.args.buffers.now c.requires.comparable c.in_ok-variables.variables c.in_ok-variables.ensures c.as_slice-queries.result.now c.as_slice-queries.ensures c.push_tables.new.lists are)
 
 pub returns-then-is_some-2 : goal.returns-then-is_some-2
 returns-then-is_some-2 c =
-    let s : Shape = shape_in c.args.matrix.now in
-    let p : Part = plain_part c.args.part.now in
-    let m : List Entry = entries_in c.args.matrix.now in
-    let bufs : List (List ℤ) = c.args.buffers.now in
-    let none : c.loop-walk.walk.levels ≡ [] = c.is_done.ensures.done c.loop-walk-test.false in
-    let e : c.push.new.self ≡ c.loop-walk.lists ++ map written (level_buffers [] c.loop-walk.walk.positions c.loop-walk.walk.rows) =
-    c.in_ok-push.ensures.ok ∙ ap (λ (l : List ℤ). c.loop-walk.lists ++ l ∷ []) c.in_ok-values.ensures in
-    let whole : c.push.new.self ≡ map written (piece_buffers s p m) = e ∙ compared-end s p m bufs c.loop-walk.walk c.loop-walk.lists none c.loop-walk.invariant in
-    let xs : map plain_piece c.deref-2.result.now ≡ pieces p = same-names p c.deref-2.result.now c.in_ok-names.names.items c.args.kinds.now c.deref-2.ensures.value c.in_ok-names.ensures c.requires.kinds in
-    let own : c.own_difference-found-2.result ≡ lists_difference 0 (own_lists p (pieces p) c.push.new.self) bufs =
-    own-of p bufs c.loop-walk.lists (map written (level_buffers [] c.loop-walk.walk.positions c.loop-walk.walk.rows)) c.push.new.self (map plain_piece c.deref-2.result.now) c.count-first-2.result c.own_difference-found-2.result
-    (compared-same s p m bufs c.loop-walk.walk c.loop-walk.lists c.loop-walk.invariant) e xs c.count-first-2.ensures c.own_difference-found-2.ensures in
-    found-early s p m bufs c.requires.comparable.packs c.push.new.self [] c.own_difference-found-2.result (append-nil c.push.new.self ∙ whole) own (sym c.is_some-2.ensures ∙ c.if-is_some-2.true)
+    let is = extents-found c.args.part.now c.args.matrix.now c.args.first c.args.buffers.now c.requires.comparable c.in_ok-variables.variables c.in_ok-variables.ensures c.as_slice-queries.result.now c.as_slice-queries.ensures c.extents.result.now c.push_extents.new.lists c.extents.ensures (c.in_ok-push_extents.ensures ∙ ap (λ (l : List (List ℤ)). l ++ extent_lists (map query_of c.as_slice-queries.result.now) c.extents.result.now) c.new-extents.ensures) in
+    let are = tables-found c.args.part.now c.args.matrix.now c.args.first c.args.buffers.now c.requires.comparable c.in_ok-variables.variables c.in_ok-variables.ensures c.as_slice-queries.result.now c.as_slice-queries.ensures c.push_tables.new.lists (c.in_ok-push_tables.ensures ∙ ap (λ (l : List (List ℤ)). l ++ table_lists (map query_of c.as_slice-queries.result.now) (tables_in c.in_ok-variables.variables)) c.new-tables.ensures) in
+    part-then c.args.part.now c.args.matrix.now c.args.first c.args.buffers.now c.requires.comparable c.in_ok-variables.variables c.in_ok-variables.ensures c.as_slice-queries.result.now c.as_slice-queries.ensures c.push_extents.new.lists is c.lists_difference-unlike.result c.lists_difference-unlike.ensures (sym c.is_some.ensures ∙ c.if-is_some.false) c.push_tables.new.lists are (c.args.first + c.count-many.result) c.count-many.result refl c.count-many.ensures c.lists_difference-found.result c.lists_difference-found.ensures (sym c.is_some-2.ensures ∙ c.if-is_some-2.true)
 
-pub pack_difference-requires-clause-packs : goal.pack_difference-requires-clause-packs
-pack_difference-requires-clause-packs c =
-    let s : Shape = shape_in c.args.matrix.now in
-    let p : Part = plain_part c.args.part.now in
-    let m : List Entry = entries_in c.args.matrix.now in
-    let bufs : List (List ℤ) = c.args.buffers.now in
-    let none : c.loop-walk.walk.levels ≡ [] = c.is_done.ensures.done c.loop-walk-test.false in
-    let e : c.push.new.self ≡ c.loop-walk.lists ++ map written (level_buffers [] c.loop-walk.walk.positions c.loop-walk.walk.rows) =
-    c.in_ok-push.ensures.ok ∙ ap (λ (l : List ℤ). c.loop-walk.lists ++ l ∷ []) c.in_ok-values.ensures in
-    let whole : c.push.new.self ≡ map written (piece_buffers s p m) = e ∙ compared-end s p m bufs c.loop-walk.walk c.loop-walk.lists none c.loop-walk.invariant in
-    let xs : map plain_piece c.deref-3.result.now ≡ pieces p = same-names p c.deref-3.result.now c.in_ok-names.names.items c.args.kinds.now c.deref-3.ensures.value c.in_ok-names.ensures c.requires.kinds in
-    packs-fit c.args.part.now c.args.part.now.packs (map plain_piece c.deref-3.result.now) c.push.new.self refl xs
-    (subst (λ (ls : List (List ℤ)). PacksHaveOneLength p ls) (sym whole) (one-length s p m bufs c.requires.comparable.packs))
+pub overflow_add-base : goal.overflow_add-base
+overflow_add-base c =
+    let is = extents-found c.args.part.now c.args.matrix.now c.args.first c.args.buffers.now c.requires.comparable c.in_ok-variables.variables c.in_ok-variables.ensures c.as_slice-queries.result.now c.as_slice-queries.ensures c.extents.result.now c.push_extents.new.lists c.extents.ensures (c.in_ok-push_extents.ensures ∙ ap (λ (l : List (List ℤ)). l ++ extent_lists (map query_of c.as_slice-queries.result.now) c.extents.result.now) c.new-extents.ensures) in
+    let are = tables-found c.args.part.now c.args.matrix.now c.args.first c.args.buffers.now c.requires.comparable c.in_ok-variables.variables c.in_ok-variables.ensures c.as_slice-queries.result.now c.as_slice-queries.ensures c.push_tables.new.lists (c.in_ok-push_tables.ensures ∙ ap (λ (l : List (List ℤ)). l ++ table_lists (map query_of c.as_slice-queries.result.now) (tables_in c.in_ok-variables.variables)) c.new-tables.ensures) in
+    record {
+      fits = omega (arith, c.requires.room, c.count-many.ensures, c.count-more.ensures, few-first c.args.part.now c.args.matrix.now c.args.first c.args.buffers.now c.requires.comparable c.in_ok-variables.variables c.in_ok-variables.ensures c.as_slice-queries.result.now c.as_slice-queries.ensures c.push_extents.new.lists is, few-second c.args.part.now c.args.matrix.now c.args.first c.args.buffers.now c.requires.comparable c.in_ok-variables.variables c.in_ok-variables.ensures c.as_slice-queries.result.now c.as_slice-queries.ensures c.push_tables.new.lists are);
+    }
+
+pub stored_difference-requires-clause-countable : goal.stored_difference-requires-clause-countable
+stored_difference-requires-clause-countable c =
+    all-countable c.args.part.now c.args.matrix.now c.args.first c.args.buffers.now c.requires.comparable
+
+pub stored_difference-requires-clause-stored : goal.stored_difference-requires-clause-stored
+stored_difference-requires-clause-stored c =
+    let is = extents-found c.args.part.now c.args.matrix.now c.args.first c.args.buffers.now c.requires.comparable c.in_ok-variables.variables c.in_ok-variables.ensures c.as_slice-queries.result.now c.as_slice-queries.ensures c.extents.result.now c.push_extents.new.lists c.extents.ensures (c.in_ok-push_extents.ensures ∙ ap (λ (l : List (List ℤ)). l ++ extent_lists (map query_of c.as_slice-queries.result.now) c.extents.result.now) c.new-extents.ensures) in
+    let are = tables-found c.args.part.now c.args.matrix.now c.args.first c.args.buffers.now c.requires.comparable c.in_ok-variables.variables c.in_ok-variables.ensures c.as_slice-queries.result.now c.as_slice-queries.ensures c.push_tables.new.lists (c.in_ok-push_tables.ensures ∙ ap (λ (l : List (List ℤ)). l ++ table_lists (map query_of c.as_slice-queries.result.now) (tables_in c.in_ok-variables.variables)) c.new-tables.ensures) in
+    stored-from c.args.part.now c.args.matrix.now c.args.first c.args.buffers.now c.requires.comparable c.in_ok-variables.variables c.in_ok-variables.ensures c.as_slice-queries.result.now c.as_slice-queries.ensures c.push_extents.new.lists is c.lists_difference-unlike.result c.lists_difference-unlike.ensures (sym c.is_some.ensures ∙ c.if-is_some.false) c.push_tables.new.lists are (c.args.first + c.count-many.result) c.count-many.result refl c.count-many.ensures c.lists_difference-found.result c.lists_difference-found.ensures (sym c.is_some-2.ensures ∙ c.if-is_some-2.false) (c.args.first + c.count-many.result + c.count-more.result) c.count-more.result refl c.count-more.ensures
+
+pub stored_difference-requires-clause-room : goal.stored_difference-requires-clause-room
+stored_difference-requires-clause-room c =
+    let is = extents-found c.args.part.now c.args.matrix.now c.args.first c.args.buffers.now c.requires.comparable c.in_ok-variables.variables c.in_ok-variables.ensures c.as_slice-queries.result.now c.as_slice-queries.ensures c.extents.result.now c.push_extents.new.lists c.extents.ensures (c.in_ok-push_extents.ensures ∙ ap (λ (l : List (List ℤ)). l ++ extent_lists (map query_of c.as_slice-queries.result.now) c.extents.result.now) c.new-extents.ensures) in
+    let are = tables-found c.args.part.now c.args.matrix.now c.args.first c.args.buffers.now c.requires.comparable c.in_ok-variables.variables c.in_ok-variables.ensures c.as_slice-queries.result.now c.as_slice-queries.ensures c.push_tables.new.lists (c.in_ok-push_tables.ensures ∙ ap (λ (l : List (List ℤ)). l ++ table_lists (map query_of c.as_slice-queries.result.now) (tables_in c.in_ok-variables.variables)) c.new-tables.ensures) in
+    low-base c.args.part.now c.args.matrix.now c.args.first c.args.buffers.now c.requires.comparable c.in_ok-variables.variables c.in_ok-variables.ensures c.as_slice-queries.result.now c.as_slice-queries.ensures c.push_extents.new.lists is c.lists_difference-unlike.result c.lists_difference-unlike.ensures (sym c.is_some.ensures ∙ c.if-is_some.false) c.push_tables.new.lists are (c.args.first + c.count-many.result) c.count-many.result refl c.count-many.ensures c.lists_difference-found.result c.lists_difference-found.ensures (sym c.is_some-2.ensures ∙ c.if-is_some-2.false) (c.args.first + c.count-many.result + c.count-more.result) c.count-more.result refl c.count-more.ensures c.requires.room
 
 pub returns : goal.returns
 returns c =
-    let s : Shape = shape_in c.args.matrix.now in
-    let p : Part = plain_part c.args.part.now in
-    let m : List Entry = entries_in c.args.matrix.now in
-    let bufs : List (List ℤ) = c.args.buffers.now in
-    let none : c.loop-walk.walk.levels ≡ [] = c.is_done.ensures.done c.loop-walk-test.false in
-    let e : c.push.new.self ≡ c.loop-walk.lists ++ map written (level_buffers [] c.loop-walk.walk.positions c.loop-walk.walk.rows) =
-    c.in_ok-push.ensures.ok ∙ ap (λ (l : List ℤ). c.loop-walk.lists ++ l ∷ []) c.in_ok-values.ensures in
-    let whole : c.push.new.self ≡ map written (piece_buffers s p m) = e ∙ compared-end s p m bufs c.loop-walk.walk c.loop-walk.lists none c.loop-walk.invariant in
-    let xs : map plain_piece c.deref-2.result.now ≡ pieces p = same-names p c.deref-2.result.now c.in_ok-names.names.items c.args.kinds.now c.deref-2.ensures.value c.in_ok-names.ensures c.requires.kinds in
-    let own : c.own_difference-found-2.result ≡ lists_difference 0 (own_lists p (pieces p) c.push.new.self) bufs =
-    own-of p bufs c.loop-walk.lists (map written (level_buffers [] c.loop-walk.walk.positions c.loop-walk.walk.rows)) c.push.new.self (map plain_piece c.deref-2.result.now) c.count-first-2.result c.own_difference-found-2.result
-    (compared-same s p m bufs c.loop-walk.walk c.loop-walk.lists c.loop-walk.invariant) e xs c.count-first-2.ensures c.own_difference-found-2.ensures in
-    let ys : map plain_piece c.deref-3.result.now ≡ pieces p = same-names p c.deref-3.result.now c.in_ok-names.names.items c.args.kinds.now c.deref-3.ensures.value c.in_ok-names.ensures c.requires.kinds in
-    IfOk-weaker c.pack_difference.result
-    (λ (d : Option Difference). d ≡ lists_difference (length (filter (is_own p) (map plain_piece c.deref-3.result.now))) (pack_lists_of c.args.part.now c.push.new.self (map plain_piece c.deref-3.result.now)) bufs)
-    (λ (d : Option Difference). d ≡ whole_difference s p m bufs c.requires.comparable.packs)
-    (λ d q. found-late s p m bufs c.requires.comparable.packs c.own_difference-found-2.result d (own ∙ ap (λ (ls : List (List ℤ)). lists_difference 0 (own_lists p (pieces p) ls) bufs) whole) (sym c.is_some-2.ensures ∙ c.if-is_some-2.false)
-    (q ∙ ap₂ (λ (n : ℕ) (ls : List (List ℤ)). lists_difference n ls bufs) (ap (λ (zs : List Piece). length (filter (is_own p) zs)) ys)
-    (pack_cells-are c.args.part.now c.push.new.self (map plain_piece c.deref-3.result.now) ys ∙ ap (pack_cells_of p) whole)))
-    c.pack_difference.ensures
+    let is = extents-found c.args.part.now c.args.matrix.now c.args.first c.args.buffers.now c.requires.comparable c.in_ok-variables.variables c.in_ok-variables.ensures c.as_slice-queries.result.now c.as_slice-queries.ensures c.extents.result.now c.push_extents.new.lists c.extents.ensures (c.in_ok-push_extents.ensures ∙ ap (λ (l : List (List ℤ)). l ++ extent_lists (map query_of c.as_slice-queries.result.now) c.extents.result.now) c.new-extents.ensures) in
+    let are = tables-found c.args.part.now c.args.matrix.now c.args.first c.args.buffers.now c.requires.comparable c.in_ok-variables.variables c.in_ok-variables.ensures c.as_slice-queries.result.now c.as_slice-queries.ensures c.push_tables.new.lists (c.in_ok-push_tables.ensures ∙ ap (λ (l : List (List ℤ)). l ++ table_lists (map query_of c.as_slice-queries.result.now) (tables_in c.in_ok-variables.variables)) c.new-tables.ensures) in
+    IfOk-weaker c.stored_difference.result (λ (d : Option Difference). d ≡ stored_difference (c.args.first + c.count-many.result + c.count-more.result) (shape_in c.args.matrix.now) (plain_part c.args.part.now) (entries_in c.args.matrix.now) c.args.buffers.now)
+    (λ (d : Option Difference). d ≡ part_difference c.args.first (shape_in c.args.matrix.now) (plain_part c.args.part.now) (entries_in c.args.matrix.now) c.args.buffers.now)
+    (λ d q. part-last c.args.part.now c.args.matrix.now c.args.first c.args.buffers.now c.requires.comparable c.in_ok-variables.variables c.in_ok-variables.ensures c.as_slice-queries.result.now c.as_slice-queries.ensures c.push_extents.new.lists is c.lists_difference-unlike.result c.lists_difference-unlike.ensures (sym c.is_some.ensures ∙ c.if-is_some.false) c.push_tables.new.lists are (c.args.first + c.count-many.result) c.count-many.result refl c.count-many.ensures c.lists_difference-found.result c.lists_difference-found.ensures (sym c.is_some-2.ensures ∙ c.if-is_some-2.false) (c.args.first + c.count-many.result + c.count-more.result) c.count-more.result refl c.count-more.ensures d q) c.stored_difference.ensures

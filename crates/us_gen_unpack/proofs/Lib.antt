@@ -1,0 +1,2 @@
+pub mod ListingFits
+pub mod ListingRuns

@@ -1,0 +1,4 @@
+pub mod Plans
+pub mod Rooms
+pub mod Runs
+pub mod Walk

@@ -1,0 +1,14 @@
+pub mod ValueOrder
+pub mod Counted
+pub mod Sorting
+pub mod Running
+pub mod Filling
+pub mod RunLaws
+pub mod RankLaws
+pub mod Best
+pub mod WeightSums
+pub mod Scheduling
+pub mod Shuffling
+pub mod Choosing
+pub mod WorkedLoops
+pub mod Defining
