@@ -3,6 +3,7 @@ pub mod CellReads
 pub mod PlanRecovery
 pub mod QueryRanges
 pub mod Ranks
+pub mod TableReads
 pub mod WalkFits
 pub mod WalkRuns
 pub mod WaysDown

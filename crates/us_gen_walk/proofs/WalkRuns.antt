@@ -25,6 +25,7 @@ use Rattle.us_format_loops.specs.Ways.{Cells, HoldsLevel, HoldsLevels, Place, Is
 use Rattle.us_format_loops.proofs.Lawful.{starts-count-nodes, entries-have-one-way}
 use Rattle.us_format_loops.proofs.Filled.{tight-parts-are-filled, last-below}
 use Rattle.us_invert.specs.declared.steps.PlanStep.{PlanStep}
+use Rattle.us_invert.specs.Plan.{step_at}
 use Rattle.us_gen.specs.Nest.{Same, Visits, At}
 use Rattle.us_gen.specs.declared.nests.Level.{Level as Looped}
 use Rattle.us_gen.specs.declared.nests.Level.TheVariants.{Full, Nodes, Crd, Cell, Packed}
@@ -43,6 +44,7 @@ use Rattle.us_gen_walk.specs.Runs.{HasColumn, HasSlot, HasSlots, HasPlaces, Reco
 use Rattle.us_gen_walk.proofs.Around.{end_after}
 use Rattle.us_gen_walk.proofs.CellReads.{Read, column_do}
 use Rattle.us_gen_walk.proofs.Ranks.{one_more, no_more, all_below, none_below, not_zero}
+use Rattle.us_gen_walk.proofs.TableReads.{in_sources, tables_are, walked_in, ready_same}
 use Rattle.us_gen_walk.proofs.WaysDown.{Held, Know, know_more, know_down, Facts, facts, tight_as}
 
 -- ---- what the registers hold inside a nest depends on those below its end
@@ -200,7 +202,10 @@ module _ (env : Env) (kept : ℕ → Type 0) (w : Places) (s : Shape) (p : Part)
       slots_do env T B w.slots.items F.rest F.rest_bufs N F.rest_rows (position w n) (b + 2) (position_of s p m x) code u _ (loop_coordinates w.loops.items n) F.slots_are F.holds lt here k
       (λ v left kv eb es er.
       let r = recovers.each x cx in
-      do_recovery env (coordinates w n) w.tables.items s p (found_of s p m x) ts steps r.values (steps_at w n) inner v _ r.walked_are recovers.same_length (coordinates_are x v.regs left cx kv) places.tables r.ready
+      let f = found_of s p m x in
+      do_recovery env (coordinates w n) w.tables.items s p (in_sources env w.tables.items f) ts steps r.values (steps_at w n) inner v _
+      (walked_in env w.tables.items f places.tables s p (coordinates w n) r.values ts steps r.ready ∙ r.walked_are) recovers.same_length (coordinates_are x v.regs left cx kv)
+      (tables_are env w.tables.items f places.tables) (λ k l. ready_same env w.tables.items f places.tables (coordinates w n) r.values k _ (step_at steps k) (r.ready k l))
       (λ t g.
       do_weaker env inner t _ _
       (λ z d. (d.0, omega (arith, d.1, g.steps_are, es), λ a ka la. d.2 a ka (omega (arith, la)) ∙ (g.regs a (omega (arith, la)) ∙ er a (omega (arith, la)))))

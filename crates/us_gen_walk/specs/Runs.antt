@@ -1,5 +1,5 @@
 -- What the loops do on the buffers of a part: their block once for each entry, by position.
-use Rattle.std.specs.Prelude.{◌≡◌, ℕ, ◌+◌, ◌*◌, ◌^◌, ◌<◌, ◌≤◌, Bool, false, cond, nat_lt, List, [], ◌∷◌, length, drop, ℤ, pos, Some, Contains}
+use Rattle.std.specs.Prelude.{◌≡◌, ◌≢◌, ℕ, ◌+◌, ◌*◌, ◌^◌, ◌<◌, ◌≤◌, Bool, false, cond, nat_lt, List, [], ◌∷◌, length, drop, slice_index_or, ℤ, pos, Some, Contains}
 use Rattle.std.specs.List.{count_by}
 use Rattle.us_code.specs.declared.program.Dim.{Dim}
 use Rattle.us_code.specs.Plain.{Code}
@@ -24,8 +24,9 @@ use Rattle.us_invert.specs.Plan.{step_at}
 use Rattle.us_invert.specs.Recovery.{walked}
 use Rattle.us_gen.specs.Nest.{Same}
 use Rattle.us_gen.specs.Levels.{Running, stays}
-use Rattle.us_gen_recover.specs.Recovery.{names_in}
-use Rattle.us_gen_recover.specs.Values.{TablesAre, IsReady}
+use Rattle.us_gen_recover.specs.declared.places.Table.{Table}
+use Rattle.us_gen_recover.specs.Recovery.{names_in, table}
+use Rattle.us_gen_recover.specs.Values.{IsReady}
 use Rattle.us_gen_walk.specs.declared.places.Column.{Column}
 use Rattle.us_gen_walk.specs.declared.places.Column.TheVariants as column
 use Rattle.us_gen_walk.specs.declared.places.Loop.{Loop}
@@ -83,11 +84,16 @@ HasLevels env [] slots ls bufs = HasSlots env slots ls bufs
 HasLevels env (x ∷ xs) slots [] bufs = ⊥
 HasLevels env (x ∷ xs) slots (l ∷ ls) bufs = HasLoop env x l.kind l.size bufs × HasLevels env xs slots ls (drop (width l.kind) bufs)
 
+-- the sources hold the tables, except empty ones, and the dims are the extents
+abbrev pub HasTables : Env → List Table → List ℕ → List (List ℤ) → Type 0
+HasTables env ts extents tables =
+    (q : ℕ) → q < length ts → (nth tables q ≢ [] → env.sources (table ts q).source ≡ nth tables q) × (size_of env (table ts q).extent ≡ slice_index_or extents q 0)
+
 -- the places are those of what a part holds for a matrix, whose numbers of positions are within the limit
 pub record HasPlaces (env : Env) (w : Places) (s : Shape) (p : Part) (m : List Entry) : Type 0 where
   pub levels : HasLevels env w.loops.items w.slots.items (levels_on s p m) (contents_of s p m).cells
   pub values : HasColumn env w.values (values_on s p m)
-  pub tables : TablesAre env w.tables.items (record { coords = []; extents = (contents_of s p m).extents; tables = (contents_of s p m).tables })
+  pub tables : HasTables env w.tables.items (contents_of s p m).extents (contents_of s p m).tables
   pub numbers : (k : ℕ) → number_after s p m k ≤ limit
 
 -- ---- the recovery

@@ -1,0 +1,4 @@
+pub mod Needs
+pub mod Written
+pub mod AllLevels
+pub mod Orders

@@ -1,0 +1,4 @@
+pub mod Standing
+pub mod Finished
+pub mod Orders
+pub mod Laws

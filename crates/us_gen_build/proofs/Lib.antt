@@ -1,0 +1,11 @@
+pub mod BlockTyped
+pub mod Closing
+pub mod FillingUp
+pub mod LevelsRun
+pub mod LevelsTyped
+pub mod LoopRun
+pub mod Making
+pub mod Opening
+pub mod Ordering
+pub mod Terms
+pub mod Wider

@@ -1,0 +1,5 @@
+pub mod Rows
+pub mod Ready
+pub mod Numbering
+pub mod Built
+pub mod Laws

@@ -1,0 +1,11 @@
+pub mod TermValues
+pub mod FillsFit
+pub mod FillsRun
+pub mod CountsFit
+pub mod CountsRun
+pub mod SumsRun
+pub mod ReordersFit
+pub mod ReordersRun
+pub mod SchedulesFit
+pub mod SelectsFit
+pub mod SelectsRun
