@@ -1,7 +1,7 @@
 -- The buffers of the parts are those of the declaration, and their meaning is the matrix.
 use Rattle.std.specs.Prelude.{Err, Ok, Result, Some, ℤ}
 use Rattle.std.specs.Result.{IfOk, OnOk}
-use Rattle.std.proofs.Common.{◌≡◌, ℕ, zero, suc, ◌+◌, ◌<◌, ◌≤◌, List, [], ◌∷◌, ◌++◌, map, length, get_or, drop, None, All, append_assoc, refl, sym, ap, ap₂, subst, ◌∙◌, arith}
+use Rattle.std.proofs.Common.{◌≡◌, ℕ, ◌+◌, ◌<◌, ◌≤◌, List, [], ◌∷◌, ◌++◌, map, length, get_or, drop, None, All, append_assoc, refl, sym, ap, ap₂, subst, ◌∙◌, arith}
 use Rattle.std.proofs.lemmas.List.{append-nil, drop_all, drop_more, map-append}
 use Rattle.std.proofs.lemmas.List.Elements.{All-head, All-tail}
 use Rattle.us_expr.specs.declared.queries.Cond.{Cond}
@@ -24,7 +24,7 @@ use Rattle.us_judge.proofs.LawfulDeclarations.{accepted-declaration}
 use Rattle.us_build.specs.declared.fault.BuildFault.{BuildFault}
 use Rattle.us_layout.specs.Splitting.{AreShares}
 use Rattle.us_levels.specs.Shared.{lists_of, sizes_of}
-use Rattle.us_levels.proofs.Sizes.{entries-are, parts-are}
+use Rattle.us_levels.proofs.Sizes.{entries-are, parts-are, sizes-next}
 use Rattle.us_levels.proofs.SmallExtents.{small-within}
 
 joined : (s : Shape) (ys : List (Part × List Entry)) (ms : List Map) → map (λ y. y.1) ys ≡ map entries_in ms → All (λ m. shape_in m ≡ s) ms → map written (all_buffers s ys) ≡ lists_of (map (λ y. y.0) ys) ms
@@ -52,7 +52,7 @@ one-lists s d m p ps cs =
 -- ---- one part after the other
 
 module _ (ps : List Part) (ms : List Map) where
-  pub lists-next : (k : ℕ) (p : Part) (m x : Map) (old made now all : List (List ℤ)) → k < length ps → length ms ≡ length ps → x ≡ get_or ms k m
+  lists-next : (k : ℕ) (p : Part) (m x : Map) (old made now all : List (List ℤ)) → k < length ps → length ms ≡ length ps → x ≡ get_or ms k m
       → made ≡ map written (part_buffers (shape_in x) (get_or ps k p) (entries_in x)) → now ≡ old ++ made → old ++ lists_of (drop k ps) (drop k ms) ≡ all → now ++ lists_of (drop (k + 1) ps) (drop (k + 1) ms) ≡ all
   lists-next k p m x old made now all h long e q r all_is =
       let rest : List (List ℤ) = lists_of (drop (k + 1) ps) (drop (k + 1) ms) in
@@ -61,16 +61,50 @@ module _ (ps : List Part) (ms : List Map) where
       ap (λ (l : List (List ℤ)). l ++ rest) made_is ∙ sym (ap₂ (λ (y : List Part) (z : List Map). lists_of y z) (drop_more ps k p h) (drop_more ms k m (omega (arith, h, long)))) in
       ap (λ (l : List (List ℤ)). l ++ rest) r ∙ append_assoc old made rest ∙ ap (λ (l : List (List ℤ)). old ++ l) front ∙ all_is
 
-  pub lists-end : (k : ℕ) (now all : List (List ℤ)) → length ps ≤ k → now ++ lists_of (drop k ps) (drop k ms) ≡ all → now ≡ all
+  lists-end : (k : ℕ) (now all : List (List ℤ)) → length ps ≤ k → now ++ lists_of (drop k ps) (drop k ms) ≡ all → now ≡ all
   lists-end k now all h e = sym (append-nil now) ∙ ap (λ (y : List Part). now ++ lists_of y (drop k ms)) (sym (drop_all k ps h)) ∙ e
 
--- the size of a part is no greater than all sizes together
-pub size-within : (ps : List Part) (ms : List Map) (k : ℕ) (p : Part) (m : Map) → k < length ps → length ms ≡ length ps
-    → unpacked_size (shape_in (get_or ms k m)) (get_or ps k p) (entries_in (get_or ms k m)) ≤ sizes_of ps ms
-size-within [] ms k p m h long = absurd (omega (arith, h))
-size-within (q ∷ ps) [] k p m h long = absurd (omega (arith, long))
-size-within (q ∷ ps) (n ∷ ms) zero p m h long = omega arith
-size-within (q ∷ ps) (n ∷ ms) (suc k) p m h long = omega (arith, size-within ps ms k p m (omega (arith, h)) (omega (arith, long)))
+-- the buffers of the first k parts, and their sizes added up
+pub record IsBuiltTo (ps : List Part) (ms : List Map) (k : ℕ) (lists : List (List ℤ)) (used : ℕ) : Type 0 where
+  pub built : lists ++ lists_of (drop k ps) (drop k ms) ≡ lists_of ps ms
+  pub measured : used + sizes_of (drop k ps) (drop k ms) ≡ sizes_of ps ms
+  pub small : used ≤ limit
+
+pub built-none : (ps : List Part) (ms : List Map) → IsBuiltTo ps ms 0 [] 0
+built-none ps ms = record { built = refl; measured = omega arith; small = omega arith }
+
+module _ (ps : List Part) (ms : List Map) (k : ℕ) (p : Part) (m x : Map) (lists : List (List ℤ)) (used : ℕ) (h : k < length ps) (long : length ms ≡ length ps) (is : x ≡ get_or ms k m) (f : IsBuiltTo ps ms k lists used) where
+  the-size : unpacked_size (shape_in x) (get_or ps k p) (entries_in x) ≡ unpacked_size (shape_in (get_or ms k m)) (get_or ps k p) (entries_in (get_or ms k m))
+  the-size = ap (λ (z : Map). unpacked_size (shape_in z) (get_or ps k p) (entries_in z)) is
+
+  pub built-next : (now : List (List ℤ)) (n : ℕ) → now ≡ lists ++ map written (part_buffers (shape_in x) (get_or ps k p) (entries_in x)) → n ≡ used + unpacked_size (shape_in x) (get_or ps k p) (entries_in x) → n ≤ limit
+      → IsBuiltTo ps ms (k + 1) now n
+  built-next now n e q small = record {
+    built = lists-next ps ms k p m x lists (map written (part_buffers (shape_in x) (get_or ps k p) (entries_in x))) now (lists_of ps ms) h long is refl e f.built;
+    measured = omega (arith, q, the-size, sizes-next ps ms k p m h long, f.measured);
+    small = small;
+  }
+
+  pub built-large : limit < used + unpacked_size (shape_in x) (get_or ps k p) (entries_in x) → limit < sizes_of ps ms
+  built-large l = omega (arith, l, the-size, sizes-next ps ms k p m h long, f.measured)
+
+module _ (ps : List Part) (ms : List Map) (k : ℕ) (lists : List (List ℤ)) (used : ℕ) (h : length ps ≤ k) (f : IsBuiltTo ps ms k lists used) where
+  pub built-all : lists ≡ lists_of ps ms
+  built-all = lists-end ps ms k lists (lists_of ps ms) h f.built
+
+  pub built-small : sizes_of ps ms ≤ limit
+  built-small = omega (arith, f.measured, f.small, ap (λ (l : List Part). sizes_of l (drop k ms)) (drop_all k ps h))
+
+-- ---- a part that is too large
+
+abbrev pub failed_size : BuildFault → Result ℕ BuildFault
+failed_size f = Err f
+
+abbrev pub failed : BuildFault → Result (List (List ℤ)) BuildFault
+failed f = Err f
+
+pub same_fault : (a b : BuildFault) → failed a ≡ failed b → a ≡ b
+same_fault a b e = cc
 
 -- ---- meaning
 

@@ -128,7 +128,7 @@ all-within s d m law im =
 
 -- ---- one part after the other
 
-sizes-next : (ps : List Part) (ms : List Map) (k : ℕ) (p : Part) (m : Map) → k < length ps → length ms ≡ length ps
+pub sizes-next : (ps : List Part) (ms : List Map) (k : ℕ) (p : Part) (m : Map) → k < length ps → length ms ≡ length ps
     → sizes_of (drop k ps) (drop k ms) ≡ unpacked_size (shape_in (get_or ms k m)) (get_or ps k p) (entries_in (get_or ms k m)) + sizes_of (drop (k + 1) ps) (drop (k + 1) ms)
 sizes-next ps ms k p m h n = ap₂ (λ (x : List Part) (y : List Map). sizes_of x y) (drop_more ps k p h) (drop_more ms k m (omega (arith, h, n)))
 

@@ -1,5 +1,5 @@
 //! Sizes, and the plain builder.
-ghost use Rattle.std.specs.Prelude.{◌≡◌, ◌+◌, ◌-◌, ◌<◌, ◌≤◌, Some, All, length, map, min, IfOk, OnOk, IsErrOf};
+ghost use Rattle.std.specs.Prelude.{◌≡◌, ◌+◌, ◌-◌, ◌<◌, ◌≤◌, ◌++◌, Some, All, length, map, min, IfOk, OnOk, IsErrOf};
 ghost use Rattle.us_format.specs.Program.{shape_in, entries_in};
 ghost use Rattle.us_format.specs.Buffers.{buffers, part_buffers, size};
 ghost use Rattle.us_format.specs.Laws.{unpacked_size};
@@ -18,7 +18,7 @@ use us_decl::Body;
 use us_judge::Format;
 use us_layout::Shares;
 use us_matrix::{Buffers, Matrix};
-use us_parts::{append, build_part, size_of_part};
+use us_parts::{build_part, size_of_part};
 
 /// The size of a part of a format on its entries; the parts are counted from 1. It is 67108865 where it is above the limit.
 fn part_size(
@@ -30,7 +30,8 @@ fn part_size(
     requires from_one { 1 ≤ part }
     requires part { part ≤ length (declaration_of format.now).parts }
     requires few { length matrix.now.entries ≤ limit }
-    ensures { IfOk result (λ n. n ≡ min (unpacked_size (shape_in matrix.now) (part_at (declaration_of format.now) (part - 1)) (entries_in matrix.now)) (limit + 1)) }
+    ensures { let p = part_at (declaration_of format.now) (part - 1) in
+        IfOk result (λ n. n ≡ min (unpacked_size (shape_in matrix.now) p (entries_in matrix.now)) (limit + 1)) }
 {
     size_of_part(alloc, format.part(part), format.kinds(part), matrix)
 }
@@ -49,6 +50,32 @@ fn size_of_parts(alloc: Global, format: &Format, shares: &Shares) -> Result<u64,
     Ok(total)
 }
 
+/// Adds the buffers of a part of a format on its entries behind those of the parts before it, which have the size `used`, and
+/// answers the size of all of them; the parts are counted from 1. They are too large exactly where this is above the limit
+/// of 67108864.
+fn push_part(
+    alloc: Global,
+    lists: &mut Buffers,
+    format: &Format,
+    part: usize,
+    matrix: &Matrix,
+    used: u64,
+) -> Result<u64, BuildFault>
+    requires from_one { 1 ≤ part }
+    requires part { part ≤ length (declaration_of format.now).parts }
+    requires few { length matrix.now.entries ≤ limit }
+    requires used { used ≤ limit }
+    ensures built { OnOk result (let p = part_at (declaration_of format.now) (part - 1) in
+        lists.new ≡ lists.old ++ map written (part_buffers (shape_in matrix.now) p (entries_in matrix.now))) }
+    ensures used { IfOk result (λ n. n ≡ used + unpacked_size (shape_in matrix.now) (part_at (declaration_of format.now) (part - 1)) (entries_in matrix.now)) }
+    ensures small { IfOk result (λ n. n ≤ limit) }
+    ensures large { let p = part_at (declaration_of format.now) (part - 1) in
+        IsErrOf result TooLarge → limit < used + unpacked_size (shape_in matrix.now) p (entries_in matrix.now) }
+{
+    let kinds = format.kinds(part);
+    build_part(alloc, lists, format.part(part), kinds, matrix, used)
+}
+
 /// The buffers of a part of a format on its entries; the parts are counted from 1. They are too large exactly where the
 /// size of the part is above the limit of 67108864.
 fn part_buffers(
@@ -60,30 +87,20 @@ fn part_buffers(
     requires from_one { 1 ≤ part }
     requires part { part ≤ length (declaration_of format.now).parts }
     requires few { length matrix.now.entries ≤ limit }
-    ensures built { IfOk result (λ b. b ≡ map written (part_buffers (shape_in matrix.now) (part_at (declaration_of format.now) (part - 1)) (entries_in matrix.now))) }
+    ensures built { let p = part_at (declaration_of format.now) (part - 1) in
+        IfOk result (λ b. b ≡ map written (part_buffers (shape_in matrix.now) p (entries_in matrix.now))) }
     ensures small { OnOk result (unpacked_size (shape_in matrix.now) (part_at (declaration_of format.now) (part - 1)) (entries_in matrix.now) ≤ limit) }
-    ensures large { IsErrOf result TooLarge → limit < unpacked_size (shape_in matrix.now) (part_at (declaration_of format.now) (part - 1)) (entries_in matrix.now) }
-{
-    build_part(alloc, format.part(part), format.kinds(part), matrix)
-}
-
-/// The buffers of the parts of a format on the matrices of their entries, one part after the other.
-fn buffers_of_parts(alloc: Global, format: &Format, shares: &Shares) -> Result<Buffers, BuildFault>
-    requires count { length shares.now ≡ length (declaration_of format.now).parts }
-    requires few { All (λ m. length m.entries ≤ limit) shares.now }
-    ensures built { IfOk result (λ b. b ≡ lists_of (declaration_of format.now).parts shares.now) }
-    ensures large { IsErrOf result TooLarge → limit < sizes_of (declaration_of format.now).parts shares.now }
+    ensures large { let p = part_at (declaration_of format.now) (part - 1) in
+        IsErrOf result TooLarge → limit < unpacked_size (shape_in matrix.now) p (entries_in matrix.now) }
 {
     let mut lists = Buffers::new(alloc);
-    for number in 0..shares.count() {
-        let made = part_buffers(alloc, format, number + 1, shares.at(number))?;
-        append(alloc, &mut lists, &made)?;
-    }
+    push_part(alloc, &mut lists, format, part, matrix, 0)?;
     Ok(lists)
 }
 
-/// The buffers of the parts of a format on the matrices of their entries, which are too large exactly where the sizes of
-/// the parts are above the limit together. This is known before any buffer is written.
+/// The buffers of the parts of a format on the matrices of their entries, one part after the other. They are too large
+/// exactly where the sizes of the parts are above the limit together; each part is measured behind those before it, once,
+/// and before its buffers are written.
 fn build_parts(alloc: Global, format: &Format, shares: &Shares) -> Result<Buffers, BuildFault>
     requires count { length shares.now ≡ length (declaration_of format.now).parts }
     requires few { All (λ m. length m.entries ≤ limit) shares.now }
@@ -91,11 +108,13 @@ fn build_parts(alloc: Global, format: &Format, shares: &Shares) -> Result<Buffer
     ensures small { OnOk result (sizes_of (declaration_of format.now).parts shares.now ≤ limit) }
     ensures large { IsErrOf result TooLarge → limit < sizes_of (declaration_of format.now).parts shares.now }
 {
-    let size = size_of_parts(alloc, format, shares)?;
-    if size > LIMIT {
-        return Err(BuildFault::TooLarge);
+    let mut lists = Buffers::new(alloc);
+    let mut used = 0;
+    for number in 0..shares.count() {
+        let matrix = shares.at(number);
+        used = push_part(alloc, &mut lists, format, number + 1, matrix, used)?;
     }
-    buffers_of_parts(alloc, format, shares)
+    Ok(lists)
 }
 
 /// The size of a format on a matrix: the lengths of all buffers and the numbers of positions after each level, added

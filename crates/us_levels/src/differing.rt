@@ -162,7 +162,8 @@ fn numbered_difference(
     requires part { part ≤ length (declaration_of format.now).parts }
     requires comparable { IsComparable (shape_in matrix.now) (part_at (declaration_of format.now) (part - 1)) (entries_in matrix.now) (drop first buffers.now) }
     requires room { first < 2 ^ 32 }
-    ensures { IfOk result (λ d. d ≡ part_difference first (shape_in matrix.now) (part_at (declaration_of format.now) (part - 1)) (entries_in matrix.now) buffers.now) }
+    ensures { IfOk result (λ d. let p = part_at (declaration_of format.now) (part - 1) in
+        d ≡ part_difference first (shape_in matrix.now) p (entries_in matrix.now) buffers.now) }
 {
     part_difference(
         alloc,

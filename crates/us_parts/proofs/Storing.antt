@@ -241,7 +241,7 @@ module _ (part : held.Part) (mx : Map) (st : IsStorable (plain_part part)) where
               packs = packs-alike s (plain_part part) m st.packs;
             })
 
-        pub built-of : (extent_lists qs t.extents.items ++ table_lists qs (tables_in t)) ++ map written (packed (plain_part part) (level_buffers (plain_levels made) 1 (rows_at (6 - length made) items)))
+        built-of : (extent_lists qs t.extents.items ++ table_lists qs (tables_in t)) ++ map written (packed (plain_part part) (level_buffers (plain_levels made) 1 (rows_at (6 - length made) items)))
             ≡ map written (part_buffers s (plain_part part) m)
         built-of =
             ap₂ (λ (x y : List (List ℤ)). (x ++ y) ++ map written (packed (plain_part part) (level_buffers (plain_levels made) 1 (rows_at (6 - length made) items))))
@@ -256,3 +256,14 @@ module _ (part : held.Part) (mx : Map) (st : IsStorable (plain_part part)) where
 
             tables : List Buffer
             tables = map (table_buffer m s) (filter has_table qs)
+
+        -- behind the buffers so far
+        pub added-of : (lists : List (List ℤ)) → lists ++ extent_lists qs t.extents.items ++ table_lists qs (tables_in t) ++ map written (packed (plain_part part) (level_buffers (plain_levels made) 1 (rows_at (6 - length made) items)))
+            ≡ lists ++ map written (part_buffers s (plain_part part) m)
+        added-of lists =
+            ap (λ (l : List (List ℤ)). l ++ stored) (append_assoc lists (extent_lists qs t.extents.items) (table_lists qs (tables_in t)))
+            ∙ append_assoc lists (extent_lists qs t.extents.items ++ table_lists qs (tables_in t)) stored
+            ∙ ap (λ (l : List (List ℤ)). lists ++ l) built-of
+          where
+            stored : List (List ℤ)
+            stored = map written (packed (plain_part part) (level_buffers (plain_levels made) 1 (rows_at (6 - length made) items)))

@@ -61,26 +61,27 @@ pub fn size_of_part(
     Ok((cells + pieces).min(LIMIT + 1))
 }
 
-/// The extents of a part's queries, and then their tables.
-fn lists_of_queries(
+/// Adds the extents of a part's queries, and then their tables.
+fn push_queries(
     alloc: Global,
+    lists: &mut Buffers,
     queries: &[Query],
     variables: &Variables,
-) -> Result<Buffers, AllocError>
+) -> Result<(), AllocError>
     requires extents { length variables.now.extents.items ≡ length queries.now }
     requires small { All (λ n. n ≤ limit) variables.now.extents.items }
     requires tables { length (tables_in variables.now) ≡ length queries.now }
     requires short { All (λ cells. length cells ≤ limit) (tables_in variables.now) }
-    ensures { IfOk result (λ b. b ≡ extent_lists (map query_of queries.now) variables.now.extents.items ++ table_lists (map query_of queries.now) (tables_in variables.now)) }
+    ensures { OnOk result (let qs = map query_of queries.now in
+        lists.new ≡ lists.old ++ extent_lists qs variables.now.extents.items ++ table_lists qs (tables_in variables.now)) }
 {
-    let mut lists = Buffers::new(alloc);
-    push_extents(alloc, &mut lists, queries, variables.extents())?;
-    push_tables(alloc, &mut lists, queries, variables)?;
-    Ok(lists)
+    push_extents(alloc, lists, queries, variables.extents())?;
+    push_tables(alloc, lists, queries, variables)?;
+    Ok(())
 }
 
-/// Adds copies of lists. Fails only where memory is wanting.
-pub fn append(alloc: Global, lists: &mut Buffers, more: &Buffers) -> Result<(), AllocError>
+/// Adds copies of lists.
+fn append(alloc: Global, lists: &mut Buffers, more: &Buffers) -> Result<(), AllocError>
     ensures { OnOk result (lists.new ≡ lists.old ++ more.now) }
 {
     for k in 0..more.count() {
@@ -105,7 +106,8 @@ fn push_stored(
     requires ready { AreReady (plain_levels levels.now) 1 (rows_at (6 - length levels.now) items.old) }
     requires small { size_from (plain_levels levels.now) 1 (rows_at (6 - length levels.now) items.old) ≤ limit }
     requires stored { AreStored (plain_part part.now) (level_buffers (plain_levels levels.now) 1 (rows_at (6 - length levels.now) items.old)) }
-    ensures { OnOk result (lists.new ≡ lists.old ++ map written (packed (plain_part part.now) (level_buffers (plain_levels levels.now) 1 (rows_at (6 - length levels.now) items.old)))) }
+    ensures { OnOk result (let pieces = level_buffers (plain_levels levels.now) 1 (rows_at (6 - length levels.now) items.old) in
+        lists.new ≡ lists.old ++ map written (packed (plain_part part.now) pieces)) }
 {
     if part.packs.is_empty() {
         return write(alloc, lists, items, levels);
@@ -116,55 +118,65 @@ fn push_stored(
     append(alloc, lists, &arranged)
 }
 
-/// The buffers of a part whose items are above the first level, and whose queries have so many cells. They are too large
-/// exactly where these cells and the size of the levels and values are above the limit.
+/// Adds the buffers of a part whose items are above the first level, and answers the size so far. So much is used before,
+/// with the cells of the part's queries; nothing is added where the size so far is above the limit.
 fn build_rows(
     alloc: Global,
+    lists: &mut Buffers,
     part: &Part,
     kinds: &[Kind],
     variables: &Variables,
-    cells: u64,
+    used: u64,
     items: &mut [Item],
     levels: &[Level],
-) -> Result<Buffers, BuildFault>
+) -> Result<u64, BuildFault>
     requires kinds { kinds.now ≡ kinds_of (plain_part part.now) }
     requires extents { length variables.now.extents.items ≡ length part.now.queries }
     requires narrow { All (λ n. n ≤ limit) variables.now.extents.items }
     requires tables { length (tables_in variables.now) ≡ length part.now.queries }
     requires short { All (λ cells. length cells ≤ limit) (tables_in variables.now) }
-    requires cells { cells ≤ limit }
+    requires used { used ≤ limit }
     requires levels { length levels.now ≤ 6 }
     requires sizes { All (λ l. l.size < 2 ^ 38) levels.now }
     requires few { length items.old ≤ limit }
     requires ready { AreReady (plain_levels levels.now) 1 (rows_at (6 - length levels.now) items.old) }
     requires unmoved { rows_at (6 - length levels.now) items.old ≡ rows_first (6 - length levels.now) items.old }
     requires stored { AreStored (plain_part part.now) (level_buffers (plain_levels levels.now) 1 (rows_at (6 - length levels.now) items.old)) }
-    ensures built { IfOk result (λ b. b ≡ (extent_lists (map query_of part.now.queries) variables.now.extents.items ++ table_lists (map query_of part.now.queries) (tables_in variables.now))
+    ensures built { OnOk result (let qs = map query_of part.now.queries in
+        lists.new ≡ lists.old ++ extent_lists qs variables.now.extents.items ++ table_lists qs (tables_in variables.now)
         ++ map written (packed (plain_part part.now) (level_buffers (plain_levels levels.now) 1 (rows_at (6 - length levels.now) items.old)))) }
-    ensures small { OnOk result (cells + size_from (plain_levels levels.now) 1 (rows_at (6 - length levels.now) items.old) ≤ limit) }
-    ensures large { IsErrOf result TooLarge → limit < cells + size_from (plain_levels levels.now) 1 (rows_at (6 - length levels.now) items.old) }
+    ensures used { IfOk result (λ n. n ≡ used + size_from (plain_levels levels.now) 1 (rows_at (6 - length levels.now) items.old)) }
+    ensures small { IfOk result (λ n. n ≤ limit) }
+    ensures large { IsErrOf result TooLarge → limit < used + size_from (plain_levels levels.now) 1 (rows_at (6 - length levels.now) items.old) }
 {
-    if cells + measure(items, levels) > LIMIT {
+    let size = used + measure(items, levels);
+    if size > LIMIT {
         return Err(BuildFault::TooLarge);
     }
-    let mut lists = lists_of_queries(alloc, part.queries.as_slice(), variables)?;
-    push_stored(alloc, &mut lists, part, kinds, items, levels)?;
-    Ok(lists)
+    push_queries(alloc, lists, part.queries.as_slice(), variables)?;
+    push_stored(alloc, lists, part, kinds, items, levels)?;
+    Ok(size)
 }
 
-/// The buffers of a part on its entries. They are too large exactly where the size is above the limit of 67108864.
+/// Adds the buffers of a part on its entries behind those of the parts before it, which have the size `used`, and answers
+/// the size of all of them. They are too large exactly where this is above the limit of 67108864; the part is measured
+/// before any of its buffers is added.
 pub fn build_part(
     alloc: Global,
+    lists: &mut Buffers,
     part: &Part,
     kinds: &[Kind],
     matrix: &Matrix,
-) -> Result<Buffers, BuildFault>
+    used: u64,
+) -> Result<u64, BuildFault>
     requires kinds { kinds.now ≡ kinds_of (plain_part part.now) }
     requires storable { IsStorable (plain_part part.now) }
     requires few { length matrix.now.entries ≤ limit }
-    ensures built { IfOk result (λ b. b ≡ map written (part_buffers (shape_in matrix.now) (plain_part part.now) (entries_in matrix.now))) }
-    ensures small { OnOk result (unpacked_size (shape_in matrix.now) (plain_part part.now) (entries_in matrix.now) ≤ limit) }
-    ensures large { IsErrOf result TooLarge → limit < unpacked_size (shape_in matrix.now) (plain_part part.now) (entries_in matrix.now) }
+    requires used { used ≤ limit }
+    ensures built { OnOk result (lists.new ≡ lists.old ++ map written (part_buffers (shape_in matrix.now) (plain_part part.now) (entries_in matrix.now))) }
+    ensures used { IfOk result (λ n. n ≡ used + unpacked_size (shape_in matrix.now) (plain_part part.now) (entries_in matrix.now)) }
+    ensures small { IfOk result (λ n. n ≤ limit) }
+    ensures large { IsErrOf result TooLarge → limit < used + unpacked_size (shape_in matrix.now) (plain_part part.now) (entries_in matrix.now) }
 {
     let queries = part.queries.as_slice();
     let levels = part.levels.as_slice();
@@ -175,12 +187,15 @@ pub fn build_part(
     }
     let variables = variables_of(alloc, part, matrix)?;
     let cells = queries_cells(queries, variables.extents(), shape);
-    if cells > LIMIT {
+    let taken = used + cells;
+    if taken > LIMIT {
         return Err(BuildFault::TooLarge);
     }
     let Rows {
         levels: made,
         mut items,
     } = Rows::new(alloc, levels, kinds, queries, &variables, shape, entries)?;
-    build_rows(alloc, part, kinds, &variables, cells, &mut items, &made)
+    build_rows(
+        alloc, lists, part, kinds, &variables, taken, &mut items, &made,
+    )
 }

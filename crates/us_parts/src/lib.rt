@@ -4,6 +4,6 @@
 mod building;
 mod queries;
 
-pub use building::{append, build_part, size_of_part, variables_of};
+pub use building::{build_part, size_of_part, variables_of};
 pub use queries::{push_extents, push_tables};
 pub use us_build::{BuildFault, LIMIT};

@@ -1,8 +1,6 @@
 -- Counts of values are counts of entries.
-use Rattle.std.specs.BTreeMap.{BTreeMap}
 use Rattle.std.specs.Ordering.{int_eq}
-use Rattle.std.proofs.Common.{◌≡◌, ℕ, zero, suc, ◌<◌, ◌≤◌, ◌+◌, length, get_or, take, drop, List, [], ◌∷◌, ◌++◌, map, Bool, true, false, cond, ◌&&◌, ℤ, FitsSigned, w64, to_z, of_z, sym, refl, ap, ap₂, ◌∙◌, subst, inl, inr, arith, append_assoc, count_by}
-use Rattle.std.proofs.lemmas.Int.{to_z-of_z}
+use Rattle.std.proofs.Common.{◌≡◌, ℕ, zero, suc, ◌<◌, ◌≤◌, ◌+◌, length, get_or, take, drop, List, [], ◌∷◌, ◌++◌, map, Bool, true, false, cond, ◌&&◌, ℤ, sym, refl, ap, ap₂, ◌∙◌, subst, inl, inr, arith, append_assoc, count_by}
 use Rattle.std.proofs.lemmas.List.{take_more, drop_more}
 use Rattle.std.proofs.lemmas.List.Sums.{count_by_more_no, count_by_more_yes, sum_by-append}
 use Rattle.us_expr.specs.Tree.{Tree}
@@ -16,7 +14,7 @@ use Rattle.us_format.proofs.Counting.{count-cons}
 use Rattle.us_format.proofs.FromProgram.{program-matrix}
 use Rattle.us_format.proofs.Lawful.{earlier-self, row-major}
 use Rattle.us_format.proofs.Order.{Mem}
-use Rattle.us_query.specs.Counts.{counted, ranks, ranks_after, totals}
+use Rattle.us_query.specs.Counts.{ranks, ranks_after, totals}
 
 pub count-map : {A B : Type 0} (f : A → B) (p : B → Bool) (xs : List A) → count_by p (map f xs) ≡ count_by (λ x. p (f x)) xs
 count-map f p [] = refl
@@ -33,6 +31,19 @@ pub count-none : {A : Type 0} (p : A → Bool) (xs : List A) → ((x : A) → Me
 count-none p [] h = refl
 count-none p (x ∷ xs) h =
     count-cons p x xs ∙ ap₂ (λ (b : Bool) (n : ℕ). cond b 1 0 + n) (h x (inl refl)) (count-none p xs (λ y m. h y (inr m)))
+
+-- in a list of which the front alone passes
+pub count-front : {A : Type 0} (p : A → Bool) (xs : List A) (k : ℕ) (d : A) → k ≤ length xs → ((i : ℕ) → i < k → p (get_or xs i d) ≡ true)
+    → ((i : ℕ) → k ≤ i → i < length xs → p (get_or xs i d) ≡ false) → count_by p xs ≡ k
+count-front p [] zero d l f g = refl
+count-front p [] (suc k) d l f g = absurd (omega (arith, l))
+count-front p (x ∷ xs) zero d l f g =
+    count-cons p x xs
+    ∙ ap₂ (λ (b : Bool) (n : ℕ). cond b 1 0 + n) (g zero (omega arith) (omega arith)) (count-front p xs zero d (omega arith) (λ i h. absurd (omega (arith, h))) (λ i h m. g (suc i) (omega arith) (omega (arith, m))))
+count-front p (x ∷ xs) (suc k) d l f g =
+    count-cons p x xs
+    ∙ ap₂ (λ (b : Bool) (n : ℕ). cond b 1 0 + n) (f zero (omega arith)) (count-front p xs k d (omega (arith, l)) (λ i h. f (suc i) (omega (arith, h))) (λ i h m. g (suc i) (omega (arith, h)) (omega (arith, m))))
+    ∙ omega arith
 
 module _ (e : Tree) where
   totals-over : (all m : List Entry) → map (λ x. count_by (λ y. int_eq y x) (map (plain_value e) all)) (map (plain_value e) m) ≡ map (sum_at all e) m
@@ -115,11 +126,3 @@ ranks-next xs k d done new all n h q e i =
     ∙ ap (λ (a : ℕ). done ++ a ∷ ranks_after (take k xs ++ get_or xs k d ∷ []) (drop (k + 1) xs)) e
     ∙ ap (λ (l : List ℤ). done ++ ranks_after (take k xs) l) (sym (drop_more xs k d h))
     ∙ i
-
-pub to_z-kept : (v : ℤ) → FitsSigned w64 v → to_z w64 (of_z w64 v) ≡ v
-to_z-kept v h = to_z-of_z w64 v h
-
-pub count-next : (xs : List ℤ) (k : ℕ) (d x : ℤ) (old new : BTreeMap ℤ ℕ) → x ≡ get_or xs k d → k < length xs → ((q : ℤ) → counted new q ≡ counted old q + cond (int_eq x q) 1 0)
-    → ((q : ℤ) → counted old q ≡ count_by (λ n. int_eq n q) (take k xs)) → (q : ℤ) → counted new q ≡ count_by (λ n. int_eq n q) (take (k + 1) xs)
-count-next xs k d x old new e l s i q =
-    s q ∙ ap₂ (λ (n : ℕ) (y : ℤ). n + cond (int_eq y q) 1 0) (i q) e ∙ sym (count-more (λ n. int_eq n q) xs k d l)

@@ -3,3 +3,4 @@ pub mod Tallies
 pub mod Ranking
 pub mod Placing
 pub mod Filling
+pub mod Searching

@@ -3,7 +3,7 @@ use Rattle.std.specs.Cmp.{IsStrictWeakOrder}
 use Rattle.std.specs.Ordering.{nat_cmp, is_lt, ordering_then}
 use Rattle.std.specs.List.{range_with_len}
 use Rattle.std.specs.List.Sorted.{IsPermutation, IsSortedBy}
-use Rattle.std.proofs.Common.{Less, Equal, Greater, ◌≡◌, ℕ, zero, suc, ◌+◌, ◌<◌, ◌≤◌, ◌⊎◌, List, [], ◌∷◌, ◌++◌, map, length, get_or, take, Bool, true, false, cond, ◌&&◌, ◌||◌, eqb, ltb, sym, refl, ap, ap₂, ◌∙◌, subst, inl, inr, arith, All, AllPairs, count_by, lt-ltb, ltb-true, eqb-true, eq-eqb}
+use Rattle.std.proofs.Common.{Less, Equal, Greater, ◌≡◌, ℕ, ◌+◌, ◌<◌, ◌≤◌, ◌⊎◌, List, [], ◌∷◌, ◌++◌, map, length, get_or, take, Bool, true, false, cond, ◌&&◌, ◌||◌, eqb, ltb, sym, refl, ap, ap₂, ◌∙◌, subst, inl, inr, arith, All, AllPairs, count_by, lt-ltb, ltb-true, eqb-true, eq-eqb}
 use Rattle.std.proofs.lemmas.Bool.{or_cases, and_parts, and_from, or_left, or_right, false≢true, cases_order}
 use Rattle.std.proofs.lemmas.Bool.Decides.{Decides-eqb}
 use Rattle.std.proofs.lemmas.List.{ext_get_or, get_or-map, length-map, map_more, take_all}
@@ -14,11 +14,10 @@ use Rattle.std.proofs.lemmas.Map.Made.{AllPairs-from_IsDistinct, IsDistinct-from
 use Rattle.us_expr.specs.declared.queries.Axis.{Axis}
 use Rattle.us_format.specs.Matrix.{Entry, Shape, indices}
 use Rattle.us_format.specs.Queries.{order_cell, rank_of, weight}
-use Rattle.us_format.proofs.Counting.{count-cons}
 use Rattle.us_format.proofs.Queries.{order-is}
 use Rattle.us_query.specs.declared.order.Weighted.{Weighted}
 use Rattle.us_query.specs.Ranked.{AreRanked, goes_before, ranked_at}
-use Rattle.us_query.proofs.EntryCounts.{count-map}
+use Rattle.us_query.proofs.EntryCounts.{count-front, count-map}
 
 -- ---- the order
 
@@ -85,20 +84,6 @@ thens false false r s = refl
 
 pub compare-is : (a b : Weighted) → is_lt (ordering_then (nat_cmp b.weight a.weight) (nat_cmp a.index b.index)) ≡ goes_before a b
 compare-is a b = thens (ltb b.weight a.weight) (eqb b.weight a.weight) (ltb a.index b.index) (eqb a.index b.index)
-
--- ---- counts in a list of which the front alone passes
-
-count-front : {A : Type 0} (p : A → Bool) (xs : List A) (k : ℕ) (d : A) → k ≤ length xs → ((i : ℕ) → i < k → p (get_or xs i d) ≡ true)
-    → ((i : ℕ) → k ≤ i → i < length xs → p (get_or xs i d) ≡ false) → count_by p xs ≡ k
-count-front p [] zero d l f g = refl
-count-front p [] (suc k) d l f g = absurd (omega (arith, l))
-count-front p (x ∷ xs) zero d l f g =
-    count-cons p x xs
-    ∙ ap₂ (λ (b : Bool) (n : ℕ). cond b 1 0 + n) (g zero (omega arith) (omega arith)) (count-front p xs zero d (omega arith) (λ i h. absurd (omega (arith, h))) (λ i h m. g (suc i) (omega arith) (omega (arith, m))))
-count-front p (x ∷ xs) (suc k) d l f g =
-    count-cons p x xs
-    ∙ ap₂ (λ (b : Bool) (n : ℕ). cond b 1 0 + n) (f zero (omega arith)) (count-front p xs k d (omega (arith, l)) (λ i h. f (suc i) (omega (arith, h))) (λ i h m. g (suc i) (omega (arith, h)) (omega (arith, m))))
-    ∙ omega arith
 
 -- ---- the table
 

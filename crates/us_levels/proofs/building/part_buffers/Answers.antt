@@ -1,31 +1,25 @@
-use Rattle.std.specs.Result.{IfOk, OnOk}
-use Rattle.std.proofs.Common.{◌≡◌, ◌<◌, ◌≤◌, ◌-◌, [], map, sym, ap, subst, ◌∙◌, arith}
+use Rattle.std.specs.Prelude.{ℤ}
+use Rattle.std.proofs.Common.{◌≡◌, ◌-◌, ◌++◌, List, map, sym, ap, ◌∙◌, arith}
+use Rattle.std.proofs.lemmas.Result.{err_from_is_err_and}
+use Rattle.us_build.specs.declared.fault.BuildFault.TheVariants.{TooLarge}
 use Rattle.us_format.specs.Buffers.{part_buffers}
-use Rattle.us_format.specs.Declaration.{Part}
-use Rattle.us_format.specs.Laws.{unpacked_size}
 use Rattle.us_format.specs.Packs.{written}
 use Rattle.us_format.specs.Program.{entries_in, shape_in}
-use Rattle.us_format.specs.Reading.{limit}
-use Rattle.us_judge.specs.Kinds.{kinds_of}
-use Rattle.us_parts.specs.Storable.{IsStorable}
-use Rattle.us_levels.proofs.Acceptable.{storable-each}
+use Rattle.us_judge.specs.Format.{part_at}
+use Rattle.us_judge.specs.Views.{declaration_of}
+use Rattle.us_levels.proofs.Joined.{failed_size, same_fault}
 use Rattle.us_levels.proofs.building.part_buffers.Goals as goal
 
-pub build_part-requires-clause-kinds : goal.build_part-requires-clause-kinds
-build_part-requires-clause-kinds c = c.kinds.ensures ∙ ap kinds_of (sym c.part.ensures.is)
-
-pub build_part-requires-clause-storable : goal.build_part-requires-clause-storable
-build_part-requires-clause-storable c =
-    subst IsStorable (sym c.part.ensures.is)
-    (storable-each c.args.format.now c.part.ensures.valid c.part.ensures.accepted (c.args.part - 1) (record { names = 0; queries = []; levels = []; trim = []; merge = []; packs = [] })
-    (omega (arith, c.requires.from_one, c.requires.part)))
+pub returns-in_err-push_part-clause-large : goal.returns-in_err-push_part-clause-large
+returns-in_err-push_part-clause-large c =
+    let y = err_from_is_err_and c.from_residual.result c.from_residual.ensures.1 in
+    λ h. let e : y.0 ≡ TooLarge = same_fault y.0 TooLarge (sym y.1 ∙ h) in
+    omega (arith, c.in_err-push_part.ensures.large (ap failed_size (sym y.2 ∙ e)))
 
 pub returns-clause-built : goal.returns-clause-built
 returns-clause-built c =
-    subst (λ (p : Part). IfOk c.build_part.result (λ b. b ≡ map written (part_buffers (shape_in c.args.matrix.now) p (entries_in c.args.matrix.now)))) c.part.ensures.is c.build_part.ensures.built
+    c.in_ok-push_part.ensures.built
+    ∙ ap (λ (l : List (List ℤ)). l ++ map written (part_buffers (shape_in c.args.matrix.now) (part_at (declaration_of c.args.format.now) (c.args.part - 1)) (entries_in c.args.matrix.now))) c.new-lists.ensures
 
 pub returns-clause-small : goal.returns-clause-small
-returns-clause-small c = subst (λ (p : Part). OnOk c.build_part.result (unpacked_size (shape_in c.args.matrix.now) p (entries_in c.args.matrix.now) ≤ limit)) c.part.ensures.is c.build_part.ensures.small
-
-pub returns-clause-large : goal.returns-clause-large
-returns-clause-large c = λ h. subst (λ (p : Part). limit < unpacked_size (shape_in c.args.matrix.now) p (entries_in c.args.matrix.now)) c.part.ensures.is (c.build_part.ensures.large h)
+returns-clause-small c = omega (arith, c.in_ok-push_part.ensures.used, c.in_ok-push_part.ensures.small)

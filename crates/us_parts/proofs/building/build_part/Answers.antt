@@ -1,10 +1,8 @@
+use Rattle.std.specs.Prelude.{ℤ}
 use Rattle.std.specs.List.{list_any}
-use Rattle.std.specs.Result.{OnOk}
+use Rattle.std.specs.Result.{IfOk, OnOk}
 use Rattle.std.proofs.Common.{◌≡◌, ◌+◌, ◌-◌, ◌<◌, ◌≤◌, ℕ, List, length, map, All, sym, ap₂, subst, ◌∙◌, arith}
-use Rattle.std.proofs.lemmas.Result.{IfOk-weaker}
-use Rattle.us_format.specs.Buffers.{part_buffers}
 use Rattle.us_format.specs.Laws.{unpacked_size}
-use Rattle.us_format.specs.Packs.{written}
 use Rattle.us_format.specs.Queries.{extent_of}
 use Rattle.us_build.specs.declared.items.Item.{Item}
 use Rattle.us_build.specs.declared.levels.Level.{Level}
@@ -19,14 +17,14 @@ use Rattle.us_format.specs.Program.{entries_in, shape_in}
 use Rattle.us_format.specs.Reading.{limit}
 use Rattle.us_judge.specs.Views.{plain_part}
 use Rattle.us_parts.specs.Cells.{has_long_axis, queries_cells}
-use Rattle.us_parts.proofs.Storing.{buildable, built-of, cells-same, countable, extents-long, extents-small, size-of, stored-of, tables-long, tables-short, shape-same, too-long, whole-is}
+use Rattle.us_parts.proofs.Storing.{added-of, buildable, cells-same, countable, extents-long, extents-small, size-of, stored-of, tables-long, tables-short, shape-same, too-long, whole-is}
 use Rattle.us_parts.proofs.building.build_part.Goals as goal
 
 pub returns-then-has_some_long_axis-clause-large : goal.returns-then-has_some_long_axis-clause-large
 returns-then-has_some_long_axis-clause-large c =
     let long : c.has_some_long_axis.result ≡ list_any (has_long_axis (shape_in c.args.matrix.now)) (map query_of c.args.part.now.queries) =
     c.has_some_long_axis.ensures ∙ ap₂ (λ (z : Shape) (l : List Query). list_any (has_long_axis z) (map query_of l)) (shape-same c.shape-shape.result c.args.matrix.now c.shape-shape.ensures.value) c.as_slice-queries.ensures in
-    λ h. too-long c.args.part.now c.args.matrix.now c.requires.storable (sym long ∙ c.if-has_some_long_axis.true)
+    λ h. omega (arith, too-long c.args.part.now c.args.matrix.now c.requires.storable (sym long ∙ c.if-has_some_long_axis.true))
 
 pub variables_of-requires-clause-countable : goal.variables_of-requires-clause-countable
 variables_of-requires-clause-countable c =
@@ -49,11 +47,11 @@ new-requires c =
     c.as_slice-levels.result.now c.args.kinds.now c.as_slice-queries.result.now c.shape-shape.result c.entries-entries.result.now c.as_slice-levels.ensures c.requires.kinds c.as_slice-queries.ensures c.shape-shape.ensures.value
     c.entries-entries.ensures.value c.entries-entries.ensures.matrix
 
-pub returns-then-cells-gt-LIMIT-clause-large : goal.returns-then-cells-gt-LIMIT-clause-large
-returns-then-cells-gt-LIMIT-clause-large c =
+pub returns-then-taken-gt-LIMIT-clause-large : goal.returns-then-taken-gt-LIMIT-clause-large
+returns-then-taken-gt-LIMIT-clause-large c =
     let long : c.has_some_long_axis.result ≡ list_any (has_long_axis (shape_in c.args.matrix.now)) (map query_of c.args.part.now.queries) =
     c.has_some_long_axis.ensures ∙ ap₂ (λ (z : Shape) (l : List Query). list_any (has_long_axis z) (map query_of l)) (shape-same c.shape-shape.result c.args.matrix.now c.shape-shape.ensures.value) c.as_slice-queries.ensures in
-    λ h. omega (arith, c.if-cells-gt-LIMIT.true, c.queries_cells-cells.ensures, cells-same c.args.part.now c.args.matrix.now c.requires.storable c.in_ok-variables.variables c.in_ok-variables.ensures c.requires.few (countable c.args.part.now c.args.matrix.now c.requires.storable (sym long ∙ c.if-has_some_long_axis.false)) c.as_slice-levels.result.now c.args.kinds.now c.as_slice-queries.result.now c.shape-shape.result c.entries-entries.result.now c.as_slice-levels.ensures c.requires.kinds c.as_slice-queries.ensures c.shape-shape.ensures.value c.entries-entries.ensures.value c.extents.result.now c.extents.ensures, whole-is c.args.part.now c.args.matrix.now c.requires.storable c.in_ok-variables.variables c.in_ok-variables.ensures c.requires.few (countable c.args.part.now c.args.matrix.now c.requires.storable (sym long ∙ c.if-has_some_long_axis.false)) c.as_slice-levels.result.now c.args.kinds.now c.as_slice-queries.result.now c.shape-shape.result c.entries-entries.result.now c.as_slice-levels.ensures c.requires.kinds c.as_slice-queries.ensures c.shape-shape.ensures.value c.entries-entries.ensures.value)
+    λ h. omega (arith, c.if-taken-gt-LIMIT.true, c.queries_cells-cells.ensures, cells-same c.args.part.now c.args.matrix.now c.requires.storable c.in_ok-variables.variables c.in_ok-variables.ensures c.requires.few (countable c.args.part.now c.args.matrix.now c.requires.storable (sym long ∙ c.if-has_some_long_axis.false)) c.as_slice-levels.result.now c.args.kinds.now c.as_slice-queries.result.now c.shape-shape.result c.entries-entries.result.now c.as_slice-levels.ensures c.requires.kinds c.as_slice-queries.ensures c.shape-shape.ensures.value c.entries-entries.ensures.value c.extents.result.now c.extents.ensures, whole-is c.args.part.now c.args.matrix.now c.requires.storable c.in_ok-variables.variables c.in_ok-variables.ensures c.requires.few (countable c.args.part.now c.args.matrix.now c.requires.storable (sym long ∙ c.if-has_some_long_axis.false)) c.as_slice-levels.result.now c.args.kinds.now c.as_slice-queries.result.now c.shape-shape.result c.entries-entries.result.now c.as_slice-levels.ensures c.requires.kinds c.as_slice-queries.ensures c.shape-shape.ensures.value c.entries-entries.ensures.value)
 
 pub build_rows-requires-clause-extents : goal.build_rows-requires-clause-extents
 build_rows-requires-clause-extents c =
@@ -72,7 +70,7 @@ build_rows-requires-clause-tables c =
     let long : c.has_some_long_axis.result ≡ list_any (has_long_axis (shape_in c.args.matrix.now)) (map query_of c.args.part.now.queries) =
     c.has_some_long_axis.ensures ∙ ap₂ (λ (z : Shape) (l : List Query). list_any (has_long_axis z) (map query_of l)) (shape-same c.shape-shape.result c.args.matrix.now c.shape-shape.ensures.value) c.as_slice-queries.ensures in
     let few : queries_cells (shape_in c.args.matrix.now) (map query_of c.args.part.now.queries) (map (extent_of (entries_in c.args.matrix.now) (shape_in c.args.matrix.now)) (map query_of c.args.part.now.queries)) ≤ limit =
-    omega (arith, c.if-cells-gt-LIMIT.false, c.queries_cells-cells.ensures, cells-same c.args.part.now c.args.matrix.now c.requires.storable c.in_ok-variables.variables c.in_ok-variables.ensures c.requires.few (countable c.args.part.now c.args.matrix.now c.requires.storable (sym long ∙ c.if-has_some_long_axis.false)) c.as_slice-levels.result.now c.args.kinds.now c.as_slice-queries.result.now c.shape-shape.result c.entries-entries.result.now c.as_slice-levels.ensures c.requires.kinds c.as_slice-queries.ensures c.shape-shape.ensures.value c.entries-entries.ensures.value c.extents.result.now c.extents.ensures) in
+    omega (arith, c.if-taken-gt-LIMIT.false, c.queries_cells-cells.ensures, cells-same c.args.part.now c.args.matrix.now c.requires.storable c.in_ok-variables.variables c.in_ok-variables.ensures c.requires.few (countable c.args.part.now c.args.matrix.now c.requires.storable (sym long ∙ c.if-has_some_long_axis.false)) c.as_slice-levels.result.now c.args.kinds.now c.as_slice-queries.result.now c.shape-shape.result c.entries-entries.result.now c.as_slice-levels.ensures c.requires.kinds c.as_slice-queries.ensures c.shape-shape.ensures.value c.entries-entries.ensures.value c.extents.result.now c.extents.ensures) in
     tables-long c.args.part.now c.args.matrix.now c.requires.storable c.in_ok-variables.variables c.in_ok-variables.ensures c.requires.few (countable c.args.part.now c.args.matrix.now c.requires.storable (sym long ∙ c.if-has_some_long_axis.false)) c.as_slice-levels.result.now c.args.kinds.now c.as_slice-queries.result.now c.shape-shape.result c.entries-entries.result.now c.as_slice-levels.ensures c.requires.kinds c.as_slice-queries.ensures c.shape-shape.ensures.value c.entries-entries.ensures.value few
 
 pub build_rows-requires-clause-short : goal.build_rows-requires-clause-short
@@ -80,7 +78,7 @@ build_rows-requires-clause-short c =
     let long : c.has_some_long_axis.result ≡ list_any (has_long_axis (shape_in c.args.matrix.now)) (map query_of c.args.part.now.queries) =
     c.has_some_long_axis.ensures ∙ ap₂ (λ (z : Shape) (l : List Query). list_any (has_long_axis z) (map query_of l)) (shape-same c.shape-shape.result c.args.matrix.now c.shape-shape.ensures.value) c.as_slice-queries.ensures in
     let few : queries_cells (shape_in c.args.matrix.now) (map query_of c.args.part.now.queries) (map (extent_of (entries_in c.args.matrix.now) (shape_in c.args.matrix.now)) (map query_of c.args.part.now.queries)) ≤ limit =
-    omega (arith, c.if-cells-gt-LIMIT.false, c.queries_cells-cells.ensures, cells-same c.args.part.now c.args.matrix.now c.requires.storable c.in_ok-variables.variables c.in_ok-variables.ensures c.requires.few (countable c.args.part.now c.args.matrix.now c.requires.storable (sym long ∙ c.if-has_some_long_axis.false)) c.as_slice-levels.result.now c.args.kinds.now c.as_slice-queries.result.now c.shape-shape.result c.entries-entries.result.now c.as_slice-levels.ensures c.requires.kinds c.as_slice-queries.ensures c.shape-shape.ensures.value c.entries-entries.ensures.value c.extents.result.now c.extents.ensures) in
+    omega (arith, c.if-taken-gt-LIMIT.false, c.queries_cells-cells.ensures, cells-same c.args.part.now c.args.matrix.now c.requires.storable c.in_ok-variables.variables c.in_ok-variables.ensures c.requires.few (countable c.args.part.now c.args.matrix.now c.requires.storable (sym long ∙ c.if-has_some_long_axis.false)) c.as_slice-levels.result.now c.args.kinds.now c.as_slice-queries.result.now c.shape-shape.result c.entries-entries.result.now c.as_slice-levels.ensures c.requires.kinds c.as_slice-queries.ensures c.shape-shape.ensures.value c.entries-entries.ensures.value c.extents.result.now c.extents.ensures) in
     tables-short c.args.part.now c.args.matrix.now c.requires.storable c.in_ok-variables.variables c.in_ok-variables.ensures c.requires.few (countable c.args.part.now c.args.matrix.now c.requires.storable (sym long ∙ c.if-has_some_long_axis.false)) c.as_slice-levels.result.now c.args.kinds.now c.as_slice-queries.result.now c.shape-shape.result c.entries-entries.result.now c.as_slice-levels.ensures c.requires.kinds c.as_slice-queries.ensures c.shape-shape.ensures.value c.entries-entries.ensures.value few
 
 pub build_rows-requires-clause-levels : goal.build_rows-requires-clause-levels
@@ -130,22 +128,24 @@ returns-clause-built c =
     let long : c.has_some_long_axis.result ≡ list_any (has_long_axis (shape_in c.args.matrix.now)) (map query_of c.args.part.now.queries) =
     c.has_some_long_axis.ensures ∙ ap₂ (λ (z : Shape) (l : List Query). list_any (has_long_axis z) (map query_of l)) (shape-same c.shape-shape.result c.args.matrix.now c.shape-shape.ensures.value) c.as_slice-queries.ensures in
     let rows : AreRowsOf c.as_slice-levels.result.now c.args.kinds.now c.as_slice-queries.result.now c.in_ok-variables.variables c.shape-shape.result c.entries-entries.result.now c.deref.result.now c.deref_mut.result.now = (subst (λ (l : List Level). AreRowsOf c.as_slice-levels.result.now c.args.kinds.now c.as_slice-queries.result.now c.in_ok-variables.variables c.shape-shape.result c.entries-entries.result.now l c.deref_mut.result.now) (sym c.deref.ensures.value) (subst (λ (l : List Item). AreRowsOf c.as_slice-levels.result.now c.args.kinds.now c.as_slice-queries.result.now c.in_ok-variables.variables c.shape-shape.result c.entries-entries.result.now c.in_ok-made.field-0.levels.items l) (sym c.deref_mut.ensures.value) c.in_ok-made.ensures)) in
-    IfOk-weaker c.build_rows.result _ (λ b. b ≡ map written (part_buffers (shape_in c.args.matrix.now) (plain_part c.args.part.now) (entries_in c.args.matrix.now))) (λ b e. e ∙ built-of c.args.part.now c.args.matrix.now c.requires.storable c.in_ok-variables.variables c.in_ok-variables.ensures c.requires.few (countable c.args.part.now c.args.matrix.now c.requires.storable (sym long ∙ c.if-has_some_long_axis.false)) c.as_slice-levels.result.now c.args.kinds.now c.as_slice-queries.result.now c.shape-shape.result c.entries-entries.result.now c.as_slice-levels.ensures c.requires.kinds c.as_slice-queries.ensures c.shape-shape.ensures.value c.entries-entries.ensures.value c.deref.result.now c.deref_mut.result.now rows) c.build_rows.ensures.built
+    subst (λ (l : List (List ℤ)). OnOk c.build_rows.result (c.build_rows.new.lists ≡ l))
+    (added-of c.args.part.now c.args.matrix.now c.requires.storable c.in_ok-variables.variables c.in_ok-variables.ensures c.requires.few (countable c.args.part.now c.args.matrix.now c.requires.storable (sym long ∙ c.if-has_some_long_axis.false)) c.as_slice-levels.result.now c.args.kinds.now c.as_slice-queries.result.now c.shape-shape.result c.entries-entries.result.now c.as_slice-levels.ensures c.requires.kinds c.as_slice-queries.ensures c.shape-shape.ensures.value c.entries-entries.ensures.value c.deref.result.now c.deref_mut.result.now rows c.args.lists.now)
+    c.build_rows.ensures.built
 
-pub returns-clause-small : goal.returns-clause-small
-returns-clause-small c =
+pub returns-clause-used : goal.returns-clause-used
+returns-clause-used c =
     let long : c.has_some_long_axis.result ≡ list_any (has_long_axis (shape_in c.args.matrix.now)) (map query_of c.args.part.now.queries) =
     c.has_some_long_axis.ensures ∙ ap₂ (λ (z : Shape) (l : List Query). list_any (has_long_axis z) (map query_of l)) (shape-same c.shape-shape.result c.args.matrix.now c.shape-shape.ensures.value) c.as_slice-queries.ensures in
     let rows : AreRowsOf c.as_slice-levels.result.now c.args.kinds.now c.as_slice-queries.result.now c.in_ok-variables.variables c.shape-shape.result c.entries-entries.result.now c.deref.result.now c.deref_mut.result.now = (subst (λ (l : List Level). AreRowsOf c.as_slice-levels.result.now c.args.kinds.now c.as_slice-queries.result.now c.in_ok-variables.variables c.shape-shape.result c.entries-entries.result.now l c.deref_mut.result.now) (sym c.deref.ensures.value) (subst (λ (l : List Item). AreRowsOf c.as_slice-levels.result.now c.args.kinds.now c.as_slice-queries.result.now c.in_ok-variables.variables c.shape-shape.result c.entries-entries.result.now c.in_ok-made.field-0.levels.items l) (sym c.deref_mut.ensures.value) c.in_ok-made.ensures)) in
-    let total : c.queries_cells-cells.result + size_from (plain_levels c.deref.result.now) 1 (rows_at (6 - length c.deref.result.now) c.deref_mut.result.now) ≡ unpacked_size (shape_in c.args.matrix.now) (plain_part c.args.part.now) (entries_in c.args.matrix.now) =
-    omega (arith, c.if-cells-gt-LIMIT.false, c.queries_cells-cells.ensures, cells-same c.args.part.now c.args.matrix.now c.requires.storable c.in_ok-variables.variables c.in_ok-variables.ensures c.requires.few (countable c.args.part.now c.args.matrix.now c.requires.storable (sym long ∙ c.if-has_some_long_axis.false)) c.as_slice-levels.result.now c.args.kinds.now c.as_slice-queries.result.now c.shape-shape.result c.entries-entries.result.now c.as_slice-levels.ensures c.requires.kinds c.as_slice-queries.ensures c.shape-shape.ensures.value c.entries-entries.ensures.value c.extents.result.now c.extents.ensures, size-of c.args.part.now c.args.matrix.now c.requires.storable c.in_ok-variables.variables c.in_ok-variables.ensures c.requires.few (countable c.args.part.now c.args.matrix.now c.requires.storable (sym long ∙ c.if-has_some_long_axis.false)) c.as_slice-levels.result.now c.args.kinds.now c.as_slice-queries.result.now c.shape-shape.result c.entries-entries.result.now c.as_slice-levels.ensures c.requires.kinds c.as_slice-queries.ensures c.shape-shape.ensures.value c.entries-entries.ensures.value c.deref.result.now c.deref_mut.result.now rows, whole-is c.args.part.now c.args.matrix.now c.requires.storable c.in_ok-variables.variables c.in_ok-variables.ensures c.requires.few (countable c.args.part.now c.args.matrix.now c.requires.storable (sym long ∙ c.if-has_some_long_axis.false)) c.as_slice-levels.result.now c.args.kinds.now c.as_slice-queries.result.now c.shape-shape.result c.entries-entries.result.now c.as_slice-levels.ensures c.requires.kinds c.as_slice-queries.ensures c.shape-shape.ensures.value c.entries-entries.ensures.value) in
-    subst (λ (n : ℕ). OnOk c.build_rows.result (n ≤ limit)) total c.build_rows.ensures.small
+    let total : c.args.used + c.queries_cells-cells.result + size_from (plain_levels c.deref.result.now) 1 (rows_at (6 - length c.deref.result.now) c.deref_mut.result.now) ≡ c.args.used + unpacked_size (shape_in c.args.matrix.now) (plain_part c.args.part.now) (entries_in c.args.matrix.now) =
+    omega (arith, c.if-taken-gt-LIMIT.false, c.queries_cells-cells.ensures, cells-same c.args.part.now c.args.matrix.now c.requires.storable c.in_ok-variables.variables c.in_ok-variables.ensures c.requires.few (countable c.args.part.now c.args.matrix.now c.requires.storable (sym long ∙ c.if-has_some_long_axis.false)) c.as_slice-levels.result.now c.args.kinds.now c.as_slice-queries.result.now c.shape-shape.result c.entries-entries.result.now c.as_slice-levels.ensures c.requires.kinds c.as_slice-queries.ensures c.shape-shape.ensures.value c.entries-entries.ensures.value c.extents.result.now c.extents.ensures, size-of c.args.part.now c.args.matrix.now c.requires.storable c.in_ok-variables.variables c.in_ok-variables.ensures c.requires.few (countable c.args.part.now c.args.matrix.now c.requires.storable (sym long ∙ c.if-has_some_long_axis.false)) c.as_slice-levels.result.now c.args.kinds.now c.as_slice-queries.result.now c.shape-shape.result c.entries-entries.result.now c.as_slice-levels.ensures c.requires.kinds c.as_slice-queries.ensures c.shape-shape.ensures.value c.entries-entries.ensures.value c.deref.result.now c.deref_mut.result.now rows, whole-is c.args.part.now c.args.matrix.now c.requires.storable c.in_ok-variables.variables c.in_ok-variables.ensures c.requires.few (countable c.args.part.now c.args.matrix.now c.requires.storable (sym long ∙ c.if-has_some_long_axis.false)) c.as_slice-levels.result.now c.args.kinds.now c.as_slice-queries.result.now c.shape-shape.result c.entries-entries.result.now c.as_slice-levels.ensures c.requires.kinds c.as_slice-queries.ensures c.shape-shape.ensures.value c.entries-entries.ensures.value) in
+    subst (λ (m : ℕ). IfOk c.build_rows.result (λ n. n ≡ m)) total c.build_rows.ensures.used
 
 pub returns-clause-large : goal.returns-clause-large
 returns-clause-large c =
     let long : c.has_some_long_axis.result ≡ list_any (has_long_axis (shape_in c.args.matrix.now)) (map query_of c.args.part.now.queries) =
     c.has_some_long_axis.ensures ∙ ap₂ (λ (z : Shape) (l : List Query). list_any (has_long_axis z) (map query_of l)) (shape-same c.shape-shape.result c.args.matrix.now c.shape-shape.ensures.value) c.as_slice-queries.ensures in
     let rows : AreRowsOf c.as_slice-levels.result.now c.args.kinds.now c.as_slice-queries.result.now c.in_ok-variables.variables c.shape-shape.result c.entries-entries.result.now c.deref.result.now c.deref_mut.result.now = (subst (λ (l : List Level). AreRowsOf c.as_slice-levels.result.now c.args.kinds.now c.as_slice-queries.result.now c.in_ok-variables.variables c.shape-shape.result c.entries-entries.result.now l c.deref_mut.result.now) (sym c.deref.ensures.value) (subst (λ (l : List Item). AreRowsOf c.as_slice-levels.result.now c.args.kinds.now c.as_slice-queries.result.now c.in_ok-variables.variables c.shape-shape.result c.entries-entries.result.now c.in_ok-made.field-0.levels.items l) (sym c.deref_mut.ensures.value) c.in_ok-made.ensures)) in
-    let total : c.queries_cells-cells.result + size_from (plain_levels c.deref.result.now) 1 (rows_at (6 - length c.deref.result.now) c.deref_mut.result.now) ≡ unpacked_size (shape_in c.args.matrix.now) (plain_part c.args.part.now) (entries_in c.args.matrix.now) =
-    omega (arith, c.if-cells-gt-LIMIT.false, c.queries_cells-cells.ensures, cells-same c.args.part.now c.args.matrix.now c.requires.storable c.in_ok-variables.variables c.in_ok-variables.ensures c.requires.few (countable c.args.part.now c.args.matrix.now c.requires.storable (sym long ∙ c.if-has_some_long_axis.false)) c.as_slice-levels.result.now c.args.kinds.now c.as_slice-queries.result.now c.shape-shape.result c.entries-entries.result.now c.as_slice-levels.ensures c.requires.kinds c.as_slice-queries.ensures c.shape-shape.ensures.value c.entries-entries.ensures.value c.extents.result.now c.extents.ensures, size-of c.args.part.now c.args.matrix.now c.requires.storable c.in_ok-variables.variables c.in_ok-variables.ensures c.requires.few (countable c.args.part.now c.args.matrix.now c.requires.storable (sym long ∙ c.if-has_some_long_axis.false)) c.as_slice-levels.result.now c.args.kinds.now c.as_slice-queries.result.now c.shape-shape.result c.entries-entries.result.now c.as_slice-levels.ensures c.requires.kinds c.as_slice-queries.ensures c.shape-shape.ensures.value c.entries-entries.ensures.value c.deref.result.now c.deref_mut.result.now rows, whole-is c.args.part.now c.args.matrix.now c.requires.storable c.in_ok-variables.variables c.in_ok-variables.ensures c.requires.few (countable c.args.part.now c.args.matrix.now c.requires.storable (sym long ∙ c.if-has_some_long_axis.false)) c.as_slice-levels.result.now c.args.kinds.now c.as_slice-queries.result.now c.shape-shape.result c.entries-entries.result.now c.as_slice-levels.ensures c.requires.kinds c.as_slice-queries.ensures c.shape-shape.ensures.value c.entries-entries.ensures.value) in
+    let total : c.args.used + c.queries_cells-cells.result + size_from (plain_levels c.deref.result.now) 1 (rows_at (6 - length c.deref.result.now) c.deref_mut.result.now) ≡ c.args.used + unpacked_size (shape_in c.args.matrix.now) (plain_part c.args.part.now) (entries_in c.args.matrix.now) =
+    omega (arith, c.if-taken-gt-LIMIT.false, c.queries_cells-cells.ensures, cells-same c.args.part.now c.args.matrix.now c.requires.storable c.in_ok-variables.variables c.in_ok-variables.ensures c.requires.few (countable c.args.part.now c.args.matrix.now c.requires.storable (sym long ∙ c.if-has_some_long_axis.false)) c.as_slice-levels.result.now c.args.kinds.now c.as_slice-queries.result.now c.shape-shape.result c.entries-entries.result.now c.as_slice-levels.ensures c.requires.kinds c.as_slice-queries.ensures c.shape-shape.ensures.value c.entries-entries.ensures.value c.extents.result.now c.extents.ensures, size-of c.args.part.now c.args.matrix.now c.requires.storable c.in_ok-variables.variables c.in_ok-variables.ensures c.requires.few (countable c.args.part.now c.args.matrix.now c.requires.storable (sym long ∙ c.if-has_some_long_axis.false)) c.as_slice-levels.result.now c.args.kinds.now c.as_slice-queries.result.now c.shape-shape.result c.entries-entries.result.now c.as_slice-levels.ensures c.requires.kinds c.as_slice-queries.ensures c.shape-shape.ensures.value c.entries-entries.ensures.value c.deref.result.now c.deref_mut.result.now rows, whole-is c.args.part.now c.args.matrix.now c.requires.storable c.in_ok-variables.variables c.in_ok-variables.ensures c.requires.few (countable c.args.part.now c.args.matrix.now c.requires.storable (sym long ∙ c.if-has_some_long_axis.false)) c.as_slice-levels.result.now c.args.kinds.now c.as_slice-queries.result.now c.shape-shape.result c.entries-entries.result.now c.as_slice-levels.ensures c.requires.kinds c.as_slice-queries.ensures c.shape-shape.ensures.value c.entries-entries.ensures.value) in
     λ h. subst (λ (n : ℕ). limit < n) total (c.build_rows.ensures.large h)

@@ -1,13 +1,13 @@
-use Rattle.std.proofs.Common.{◌++◌, [], ◌∷◌, ℕ, List, ℤ, get_or, pos, sym, ap₂, ◌∙◌}
-use Rattle.std.proofs.lemmas.List.{map_more}
-use Rattle.std.specs.List.{count_by}
-use Rattle.std.specs.Ordering.{int_eq}
+use Rattle.std.proofs.Common.{ℤ, List, sym, subst, ap, arith, length}
+use Rattle.std.specs.List.Sorted.{IsPermutation, IsSorted}
+use Rattle.std.specs.Ordering.{int_cmp}
 use Rattle.us_query.proofs.counting.totals.Goals as goal
 
-pub loop-n-preserved : goal.loop-n-preserved
-loop-n-preserved c =
-    let xs : List ℤ = c.args.numbers.now in
-    let x : ℤ = get_or xs c.loop-n.n-index (pos 0) in
-    c.in_ok-push.ensures.items
-    ∙ ap₂ (λ (l : List ℕ) (n : ℕ). l ++ n ∷ []) c.loop-n.invariant (c.counted.ensures ∙ c.in_ok-counts.ensures x)
-    ∙ sym (map_more (λ z. count_by (λ y. int_eq y z) xs) xs c.loop-n.n-index (pos 0) c.loop-n-test.true)
+pub totals_in-requires-clause-few : goal.totals_in-requires-clause-few
+totals_in-requires-clause-few c = omega (arith, c.requires, ap (λ (l : List ℤ). length l) c.deref.ensures.value, c.in_ok-sorted.ensures.len)
+
+pub totals_in-requires-clause-permutation : goal.totals_in-requires-clause-permutation
+totals_in-requires-clause-permutation c = subst (λ (l : List ℤ). IsPermutation c.args.numbers.now l) (sym c.deref.ensures.value) c.in_ok-sorted.ensures.permutation
+
+pub totals_in-requires-clause-order : goal.totals_in-requires-clause-order
+totals_in-requires-clause-order c = subst (λ (l : List ℤ). IsSorted int_cmp l) (sym c.deref.ensures.value) c.in_ok-sorted.ensures.order
