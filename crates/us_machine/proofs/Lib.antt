@@ -2,6 +2,7 @@ pub mod ArmSteps
 pub mod Begin
 pub mod BlockSteps
 pub mod Cells
+pub mod Digits
 pub mod Finish
 pub mod Grow
 pub mod Held

@@ -1,16 +1,20 @@
 -- Places in the order of keys.
-use Rattle.std.proofs.Common.{◌≡◌, ◌≢◌, ℕ, zero, suc, ◌+◌, ◌<◌, Bool, true, false, cond, eqb, List, [], ◌∷◌, ◌++◌, map, length, get_or, ℤ, pos, count_by, refl, sym, ap, ◌∙◌, arith, add-one}
+use Rattle.std.proofs.Common.{◌≡◌, ◌≢◌, ℕ, zero, suc, ◌+◌, ◌<◌, Bool, true, false, cond, eqb, List, [], ◌∷◌, ◌++◌, map, length, get_or, ℤ, pos, count_by, refl, sym, ap, ap₂, ◌∙◌, arith, add-one}
 use Rattle.std.specs.Cmp.{IsStrictWeakOrder}
 use Rattle.std.specs.List.{range_with_len}
 use Rattle.std.specs.List.Sorted.{IsPermutation, IsSortedBy}
 use Rattle.std.proofs.lemmas.Bool.Decides.{nat_tests}
 use Rattle.std.proofs.lemmas.List.{length-map}
-use Rattle.std.proofs.lemmas.List.Sorted.{sorted_far, sum_by-IsPermutation, length_permutation}
+use Rattle.std.proofs.lemmas.List.Sorted.{sorted_far, sum_by-IsPermutation, length_permutation, IsPermutation-refl}
 use Rattle.std.proofs.lemmas.List.Sums.{sum_by-cons}
-use Rattle.std.proofs.lemmas.List.FromFn.{length-range_with_len}
+use Rattle.std.proofs.lemmas.List.FromFn.{length-range_with_len, get_or-range_with_len}
+use Rattle.us_code.specs.declared.program.Buf.{Buf}
 use Rattle.us_code.specs.Sort.{before, ordered}
 use Rattle.us_code_laws.proofs.Orders.{by_keys, ordered_by_keys}
 use Rattle.us_code_laws.proofs.Sorts.{IsOrder}
+use Rattle.us_machine.specs.declared.tables.Tables.{Tables}
+use Rattle.us_machine.specs.Sorting.{lists_at, lists_of}
+use Rattle.us_machine.specs.Tables.{seg_of}
 
 eq_of : (a b : ℕ) → eqb a b ≡ true → a ≡ b
 eq_of a b h = grind (arith, nat_tests)
@@ -121,6 +125,22 @@ are_ordered keys n old new e moved sorted =
     (up_from less o new (λ i j lt l. sorted_far less (weak_order keys) new sorted i j 0 (omega (arith, lt)) l))
     (up_from less o (ordered keys n) (λ i j lt l. one_way less o _ _ (ordered_by_keys.ascending keys n i j lt (omega (arith, l, ordered_by_keys.long keys n)))))
     (λ p. sum_by-IsPermutation (λ y. cond (p y) 1 0) old new moved ∙ (ap (count_by p) e ∙ sym (ordered_by_keys.all keys n p)))
+
+-- places that ascend as they are
+pub stay_ordered : (keys : List (List ℤ)) (n : ℕ) (places : List ℕ) → places ≡ range_with_len 0 n → ((x : ℕ) → x + 1 < n → before keys (x + 1) x ≡ false) → places ≡ ordered keys n
+stay_ordered keys n places e up =
+    let range = range_with_len 0 n in
+    let sorted : IsSortedBy (before keys) range = λ k d from lt.
+    let l : k + 1 < n = omega (arith, lt, length-range_with_len 0 n) in
+    let after : get_or range (k + 1) d ≡ k + 1 = get_or-range_with_len 0 n (k + 1) d l ∙ omega arith in
+    let at : get_or range k d ≡ k = get_or-range_with_len 0 n k d (omega (arith, l)) ∙ omega arith in
+    ap₂ (before keys) after at ∙ up k l in
+    e ∙ are_ordered keys n range range refl (IsPermutation-refl range) sorted
+
+-- the buffers' lists by their places
+pub same_lists : (t : Tables) (lists : List (List ℤ)) (keys : List Buf) → lists_at lists (map (seg_of t) keys) ≡ lists_of t lists keys
+same_lists t lists [] = refl
+same_lists t lists (k ∷ ks) = ap (λ (xs : List (List ℤ)). get_or lists (seg_of t k) [] ∷ xs) (same_lists t lists ks)
 
 range_push : (k m : ℕ) → range_with_len k (suc m) ≡ range_with_len k m ++ (k + m) ∷ []
 range_push k zero = let e : k ≡ k + 0 = omega arith in ap (λ (j : ℕ). j ∷ []) e

@@ -1,6 +1,7 @@
 pub mod Answer
 pub mod Growing
 pub mod Lines
+pub mod Packing
 pub mod Phases
 pub mod Sorting
 pub mod Starting

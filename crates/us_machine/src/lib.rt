@@ -9,6 +9,7 @@ mod growing;
 mod lines;
 mod makes;
 mod names;
+mod packing;
 mod phases;
 mod rooms;
 mod running;

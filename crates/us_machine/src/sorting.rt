@@ -1,5 +1,5 @@
 //! The statement that orders.
-ghost use Rattle.std.specs.Prelude.{◌≡◌, ◌+◌, List, ◌<◌, ◌≤◌, ℕ, ℤ, pos, [], map, length, get_or, slice_set, false, true, IfOk};
+ghost use Rattle.std.specs.Prelude.{◌≡◌, ◌+◌, List, ◌<◌, ◌≤◌, ℕ, ℤ, pos, [], map, length, get_or, slice_set, false, IsTrue, IfOk};
 ghost use Rattle.std.specs.List.{range_with_len};
 ghost use Rattle.std.specs.Ordering.{is_lt};
 ghost use Rattle.us_code.specs.Plain as plain;
@@ -8,11 +8,12 @@ ghost use Rattle.us_code.specs.Sort as sort;
 ghost use Rattle.us_code.specs.Typing.{Context};
 ghost use Rattle.us_raw.specs.declared.width.Width.TheVariants.{W8};
 ghost use Rattle.us_raw.specs.Widths.{HoldsAll};
-ghost use Rattle.us_machine.specs.Sorting.{lists_of, AreLong, CanOrder};
+ghost use Rattle.us_machine.specs.Sorting.{lists_at, lists_of, AreLists, AreLong, CanOrder};
 ghost use Rattle.us_machine.specs.Steps.{Shows};
-ghost use Rattle.us_machine.specs.Tables.{env_of};
+ghost use Rattle.us_machine.specs.Tables.{env_of, seg_of};
 ghost use Rattle.us_machine.specs.Walks.{Ready, Leads, state_of};
 
+use crate::packing::{PLACES, WORD, digits_of, is_narrow, sorted_by_number, sorted_by_word};
 use crate::stop::RunStop;
 use crate::tables::Tables;
 use std::alloc::{AllocError, Global};
@@ -34,14 +35,13 @@ fn cell(region: &Region, seg: usize, place: u32, len: u64) -> i64
 }
 
 /// Which of two places comes first: by the first key that tells them apart, else by number.
-fn compare(keys: &[Buf], x: u32, y: u32, len: u64, tables: &Tables, region: &Region) -> Ordering
-    requires { AreLong tables.now region.now.lists len keys.now }
-    ensures { is_lt result ≡ sort.before (lists_of tables.now region.now.lists keys.now) x y }
+fn compare(segs: &[usize], x: u32, y: u32, len: u64, region: &Region) -> Ordering
+    requires { AreLists region.now.lists len segs.now }
+    ensures { is_lt result ≡ sort.before (lists_at region.now.lists segs.now) x y }
 {
-    for key in keys {
-        let seg = tables.segment(*key);
-        let left = cell(region, seg, x, len);
-        let right = cell(region, seg, y, len);
+    for seg in segs {
+        let left = cell(region, *seg, x, len);
+        let right = cell(region, *seg, y, len);
         if left < right {
             return Ordering::Less;
         }
@@ -52,16 +52,73 @@ fn compare(keys: &[Buf], x: u32, y: u32, len: u64, tables: &Tables, region: &Reg
     x.cmp(&y)
 }
 
+/// Whether no place comes before the one in front of it.
+fn is_in_order(segs: &[usize], len: u64, region: &Region) -> bool
+    requires lists { AreLists region.now.lists len segs.now }
+    requires small { len ≤ 67108865 }
+    ensures ascends { IsTrue result → (x : ℕ) → x + 1 < len → sort.before (lists_at region.now.lists segs.now) (x + 1) x ≡ false }
+    ensures long { result ≡ false → 1 < len }
+{
+    for x in 1..len as u32 {
+        if compare(segs, x, x - 1, len, region).is_lt() {
+            return false;
+        }
+    }
+    true
+}
+
 /// The places below `len`.
 fn places_below(alloc: Global, len: u64) -> Result<Vec<u32>, AllocError>
     requires { len ≤ 67108865 }
     ensures { IfOk result (λ v. v.items ≡ range_with_len 0 len) }
 {
-    let mut places = Vec::new(alloc);
+    let mut places = Vec::with_capacity(alloc, len as usize)?;
     for x in 0..len {
         places.push(x as u32)?;
     }
     Ok(places)
+}
+
+/// The places below `len` in the order of the lists, sorted by comparing places.
+fn sorted_by_comparing(
+    alloc: Global,
+    segs: &[usize],
+    len: u64,
+    region: &Region,
+) -> Result<Vec<u32>, AllocError>
+    requires lists { AreLists region.now.lists len segs.now }
+    requires small { len ≤ 67108865 }
+    ensures { IfOk result (λ v. v.items ≡ sort.ordered (lists_at region.now.lists segs.now) len) }
+{
+    let mut places = places_below(alloc, len)?;
+    places.sort_unstable_by(|x, y| compare(segs, *x, *y, len, region));
+    Ok(places)
+}
+
+/// The places below `len` in the order of the lists.
+fn sorted(alloc: Global, segs: &[usize], len: u64, region: &Region) -> Result<Vec<u32>, AllocError>
+    requires lists { AreLists region.now.lists len segs.now }
+    requires small { len ≤ 67108865 }
+    ensures { IfOk result (λ v. v.items ≡ sort.ordered (lists_at region.now.lists segs.now) len) }
+{
+    if is_in_order(segs, len, region) {
+        return places_below(alloc, len);
+    }
+    let digits = digits_of(alloc, segs, len, region)?;
+    if is_narrow(digits.as_slice(), u128::from(len), WORD) {
+        sorted_by_word(alloc, digits.as_slice(), len, region)
+    } else if is_narrow(digits.as_slice(), PLACES, u128::MAX) {
+        sorted_by_number(alloc, digits.as_slice(), len, region)
+    } else {
+        sorted_by_comparing(alloc, segs, len, region)
+    }
+}
+
+/// The lists that the buffers are.
+fn segments(alloc: Global, keys: &[Buf], tables: &Tables) -> Result<Vec<usize>, AllocError>
+    ensures { IfOk result (λ v. v.items ≡ map (seg_of tables.now) keys.now) }
+{
+    keys.iter().map(|key| tables.segment(*key)).collect(alloc)
 }
 
 /// The places below `len` in the order of the keys.
@@ -76,9 +133,8 @@ fn ordered(
     requires small { len ≤ 67108865 }
     ensures { IfOk result (λ v. v.items ≡ sort.ordered (lists_of tables.now region.now.lists keys.now) len) }
 {
-    let mut places = places_below(alloc, len)?;
-    places.sort_unstable_by(|x, y| compare(keys, *x, *y, len, tables, region));
-    Ok(places)
+    let segs = segments(alloc, keys, tables)?;
+    sorted(alloc, segs.as_slice(), len, region)
 }
 
 /// A list of the region gets the numbers.
