@@ -1,12 +1,9 @@
-//! What no clause says, over the public calls of all crates: worked texts and files, and the answers that were worked out by hand.
+//! What no clause says, over whole files and commands: worked texts and files, and the answers that were worked out by
+//! hand. Tests of one crate alone stand in `us_unit_tests`.
 #![tactic(auto)]
 
 #[cfg(test)]
-mod code_rules;
-#[cfg(test)]
 mod code_runs;
-#[cfg(test)]
-mod code_texts;
 #[cfg(test)]
 mod commands;
 #[cfg(test)]
@@ -14,17 +11,11 @@ mod containers;
 #[cfg(test)]
 mod declarations;
 #[cfg(test)]
-mod expressions;
-#[cfg(test)]
 mod formats;
 #[cfg(test)]
 mod matrix_files;
 #[cfg(test)]
-mod outside;
-#[cfg(test)]
 mod queries;
-#[cfg(test)]
-mod regions;
 #[cfg(test)]
 mod runs;
 #[cfg(test)]
