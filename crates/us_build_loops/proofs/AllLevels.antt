@@ -112,6 +112,8 @@ level-cost T role.Single l at x = omega arith
 level-cost T role.AtPosition l at x = omega arith
 level-cost T role.AtRank l at x = omega arith
 level-cost T role.Counted l at x = omega (arith, seen_up (keys T l at) x)
+level-cost T role.Marked l at x = omega arith
+level-cost T role.Kept l at x = omega arith
 
 pub loop-cost : (T : Turns) (ls : List LevelTree) (at : ℕ → ℕ) (x : ℕ) → costs T ls at x ≤ length ls * (7 * x)
 loop-cost T [] at x = omega arith
@@ -133,6 +135,9 @@ level-end T l k behind n rows at st role.Full e z s = omega arith
 level-end T l k behind n rows at st role.AtPosition e z s = omega arith
 level-end T l k behind n rows at st role.AtRank e z s = omega arith
 level-end T l k behind n rows at st role.Counted e z s = omega arith
+level-end T l k behind n rows at st role.Marked e Compressed s = omega (arith, end-cost T l n l.is_top (st.pos_length (subst (λ (r : Role). has_starts r ≡ true) (sym e) refl)))
+level-end T l k behind n rows at st role.Marked e Listed s = omega (arith, end-cost T l n l.is_top (st.pos_length (subst (λ (r : Role). has_starts r ≡ true) (sym e) refl)))
+level-end T l k behind n rows at st role.Kept e z s = omega arith
 level-end T l k behind n rows at st _ e _ s = absurd s
 
 value-end : (T : Turns) (l : LevelTree) (r : Role) → Spreads r → close_cost T r l ≡ 0

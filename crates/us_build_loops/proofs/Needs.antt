@@ -1,5 +1,5 @@
 -- One level of the loop has what it needs.
-use Rattle.std.proofs.Common.{◌≡◌, ℕ, ◌+◌, ◌*◌, ◌^◌, ◌<◌, List, length, Bool, true, sym, refl, ap, ◌∙◌, subst, arith}
+use Rattle.std.proofs.Common.{◌≡◌, ℕ, ◌+◌, ◌*◌, ◌^◌, ◌<◌, List, length, Bool, true, ◌||◌, sym, refl, ap, ◌∙◌, subst, arith}
 use Rattle.std.proofs.Math.Path.{fun_ext}
 use Rattle.us_format.specs.declared.Kind.{Kind}
 use Rattle.us_format.specs.declared.Kind.TheVariants.{Compressed, Listed}
@@ -11,7 +11,7 @@ use Rattle.us_build.proofs.Counts.{Mem-at}
 use Rattle.us_gen_build.specs.declared.levels.Role.{Role}
 use Rattle.us_gen_build.specs.declared.levels.Role.TheVariants as role
 use Rattle.us_gen_build.specs.Levels.{LevelTree}
-use Rattle.us_gen_build.specs.Turns.{Turns, Needs, position_of, inside, has_key, marks_pos}
+use Rattle.us_gen_build.specs.Turns.{Turns, Needs, position_of, inside, has_key, marks_pos, writes_crd}
 use Rattle.us_gen_build.specs.Blocks.{PosNeeds, CloseNeeds}
 use Rattle.us_running.specs.Laws.{DoNotFall}
 use Rattle.us_gen_build_laws.specs.Rows.{no_row, row, NodesRise}
@@ -20,7 +20,7 @@ use Rattle.us_gen_build_laws.specs.Numbering.{Suits, IsTaken, ArePositions, AreA
 use Rattle.us_gen_build_laws.proofs.Rising.{ascending-rises}
 use Rattle.us_gen_build_laws.proofs.OneLevel.{falls}
 use Rattle.us_gen_build_laws.proofs.Levels.{positions-here, at-down}
-use Rattle.us_build_loops.specs.Standing.{numbering_of, taken_of, has_starts, Spreads, StandsFor, StoresValues}
+use Rattle.us_build_loops.specs.Standing.{numbering_of, taken_of, has_starts, has_number, Spreads, StandsFor, StoresValues}
 
 -- a role's position is that of its numbering
 pub position-is : (r : Role) (w : ℕ) (at c : ℕ → ℕ) (x : ℕ) → position_of r w at c x ≡ numbered (numbering_of r) w at c x
@@ -30,6 +30,8 @@ position-is role.Single w at c x = refl
 position-is role.AtPosition w at c x = refl
 position-is role.AtRank w at c x = refl
 position-is role.Counted w at c x = refl
+position-is role.Marked w at c x = refl
+position-is role.Kept w at c x = refl
 
 starts-there : (r : Role) (top : Bool) → marks_pos r top ≡ true → has_starts r ≡ true
 starts-there role.Full top e = absurd cc
@@ -38,6 +40,11 @@ starts-there role.Single top e = refl
 starts-there role.AtPosition top e = absurd cc
 starts-there role.AtRank top e = absurd cc
 starts-there role.Counted top e = absurd cc
+starts-there role.Marked top e = refl
+starts-there role.Kept top e = absurd cc
+
+pub writes-number : (r : Role) → writes_crd r ≡ true → has_number r ≡ true
+writes-number r e = ap (λ (b : Bool). b || has_starts r) e
 
 module _ (T : Turns) (l : LevelTree) (k : Level) (behind : List Level) (n : ℕ) (rows : List Row) (at : ℕ → ℕ) (entries : length rows ≡ T.count) (ready : IsReady k behind n rows) (ats : AreAt rows at) (st : StandsFor T l k behind n rows at) where
   pub taken-is : IsTaken (taken_of T l) k behind rows
@@ -64,7 +71,7 @@ module _ (T : Turns) (l : LevelTree) (k : Level) (behind : List Level) (n : ℕ)
     in_pos = λ x h e. omega (arith, here.above x (omega (arith, h, entries)), st.pos_length (starts-there l.role l.is_top e));
     is_rank = λ x h e. st.rank x h e;
     in_crd = λ x h e.
-        subst (λ (v : ℕ). inside T l at x < v) (sym (st.crd_length e))
+        subst (λ (v : ℕ). inside T l at x < v) (sym (st.crd_length (writes-number l.role e)))
         (subst (λ (f : ℕ → ℕ). f x < count_below k.kind k.size n rows) (sym inside-is) (here.within x (omega (arith, h, entries))));
   }
 
@@ -75,9 +82,12 @@ module _ (T : Turns) (l : LevelTree) (k : Level) (behind : List Level) (n : ℕ)
   rises-of role.AtPosition h z e s = absurd cc
   rises-of role.AtRank h z e s = absurd cc
   rises-of role.Counted h z e s = absurd cc
+  rises-of role.Kept h z e s = absurd cc
   rises-of role.Shared h Compressed e s = ready.rises e
   rises-of role.Single h Compressed e s = ready.rises e
   rises-of role.Single h Listed e s = ascending-rises rows (ready.ascends e)
+  rises-of role.Marked h Compressed e s = ready.rises e
+  rises-of role.Marked h Listed e s = ascending-rises rows (ready.ascends e)
   rises-of _ h _ e s = absurd s
 
   small-at : (x : ℕ) → x < length rows → head (row rows x).rest < k.size
@@ -96,6 +106,8 @@ module _ (T : Turns) (l : LevelTree) (k : Level) (behind : List Level) (n : ℕ)
   close-needs role.AtPosition e = tt
   close-needs role.AtRank e = tt
   close-needs role.Counted e = tt
+  close-needs role.Marked e = pos-needs (subst (λ (r : Role). has_starts r ≡ true) (sym e) refl)
+  close-needs role.Kept e = tt
 
 -- ---- the level of the values
 

@@ -19,9 +19,9 @@ use Rattle.us_gen_build_laws.specs.Rows.{row}
 use Rattle.us_gen_build_laws.specs.Ready.{IsReady}
 use Rattle.us_gen_build_laws.specs.Numbering.{Suits, AreAt, opens, under, keys_of}
 use Rattle.us_gen_build_laws.specs.Built.{AreWritten, AreStarts, IsBuilt}
-use Rattle.us_build_loops.specs.Standing.{numbering_of, taken_of, has_starts, Spreads, StandsFor, StoresValues}
-use Rattle.us_build_loops.specs.Finished.{lists_in}
-use Rattle.us_build_loops.proofs.Needs.{inside-is, here}
+use Rattle.us_build_loops.specs.Standing.{numbering_of, taken_of, has_starts, has_number, Spreads, StandsFor, StoresValues}
+use Rattle.us_build_loops.specs.Finished.{Fills, lists_in}
+use Rattle.us_build_loops.proofs.Needs.{writes-number, inside-is, here}
 
 pub table_resized : (cells : List ℤ) (m k : ℕ) (f : ℕ → ℤ) → m ≡ k → Table cells m f → Table cells k f
 table_resized cells m k f e t = subst (λ (z : ℕ). Table cells z f) e t
@@ -66,6 +66,8 @@ module _ (T : Turns) (l : LevelTree) where
       (table_resized (u.bufs (l.first + 1)) (size_of T.env l.crd_length) m (turns.cells_at T l (λ y. y) T.count) size i)
   crd-written role.Full at m u e rank what is size i = absurd cc
   crd-written role.Counted at m u e rank what is size i = absurd cc
+  crd-written role.Marked at m u e rank what is size i = absurd cc
+  crd-written role.Kept at m u e rank what is size i = absurd cc
 
   -- ---- counts
 
@@ -76,6 +78,8 @@ module _ (T : Turns) (l : LevelTree) where
   node-left role.Single at u e i = absurd cc
   node-left role.AtPosition at u e i = absurd cc
   node-left role.AtRank at u e i = absurd cc
+  node-left role.Marked at u e i = absurd cc
+  node-left role.Kept at u e i = absurd cc
 
 -- ---- a level that stands for one of the format
 
@@ -95,6 +99,9 @@ module _ (T : Turns) (l : LevelTree) (k : Level) (behind : List Level) (n : ℕ)
   opened role.Shared e h = seen-is role.Shared e ((here T l k behind n rows at entries ready ats st).counted (ap numbering_of e))
   opened role.Single e h =
       all-numbered (λ x. true) T.count (λ x g. refl) T.count (omega arith) ∙ (sym entries ∙ (here T l k behind n rows at entries ready ats st).ranked (ap numbering_of e))
+  opened role.Marked e h =
+      all-numbered (λ x. true) T.count (λ x g. refl) T.count (omega arith) ∙ (sym entries ∙ (here T l k behind n rows at entries ready ats st).ranked (ap numbering_of e))
+  opened role.Kept e h = absurd cc
   opened role.Full e h = absurd cc
   opened role.AtPosition e h = absurd cc
   opened role.AtRank e h = absurd cc
@@ -118,9 +125,12 @@ module _ (T : Turns) (l : LevelTree) (k : Level) (behind : List Level) (n : ℕ)
 
   pub starts-left : (r : Role) → l.role ≡ r → has_starts r ≡ true → LevelBuilt T r l at u → AreStarts T.count (opens (numbering_of r) (keys T l at)) at n (u.bufs l.first)
   starts-left role.Shared e h i =
-      starts-either l.is_top (is_new (keys T l at)) refl (opened role.Shared e h) (st.crd_length (subst (λ (r : Role). writes_crd r ≡ true) (sym e) refl)) (st.pos_length (subst (λ (r : Role). has_starts r ≡ true) (sym e) refl)) i.0
+      starts-either l.is_top (is_new (keys T l at)) refl (opened role.Shared e h) (st.crd_length (subst (λ (r : Role). has_number r ≡ true) (sym e) refl)) (st.pos_length (subst (λ (r : Role). has_starts r ≡ true) (sym e) refl)) i.0
   starts-left role.Single e h i =
-      starts-either l.is_top (λ x. true) refl (opened role.Single e h) (st.crd_length (subst (λ (r : Role). writes_crd r ≡ true) (sym e) refl)) (st.pos_length (subst (λ (r : Role). has_starts r ≡ true) (sym e) refl)) i.0
+      starts-either l.is_top (λ x. true) refl (opened role.Single e h) (st.crd_length (subst (λ (r : Role). has_number r ≡ true) (sym e) refl)) (st.pos_length (subst (λ (r : Role). has_starts r ≡ true) (sym e) refl)) i.0
+  starts-left role.Marked e h i =
+      starts-either l.is_top (λ x. true) refl (opened role.Marked e h) (st.crd_length (subst (λ (r : Role). has_number r ≡ true) (sym e) refl)) (st.pos_length (subst (λ (r : Role). has_starts r ≡ true) (sym e) refl)) i
+  starts-left role.Kept e h i = absurd cc
   starts-left role.Full e h i = absurd cc
   starts-left role.AtPosition e h i = absurd cc
   starts-left role.AtRank e h i = absurd cc
@@ -137,35 +147,42 @@ module _ (T : Turns) (l : LevelTree) (k : Level) (behind : List Level) (n : ℕ)
   cells-here e =
       subst (λ (f : ℕ → ℕ). AreWritten (length rows) f (λ x. pos (T.coord l x)) (count_below k.kind k.size n rows) (u.bufs (l.first + 1))) (inside-is T l k behind n rows at entries ready ats st)
       (subst (λ (v : ℕ). AreWritten v (inside T l at) (λ x. pos (T.coord l x)) (count_below k.kind k.size n rows) (u.bufs (l.first + 1))) (sym entries)
-      (crd-written T l l.role at (count_below k.kind k.size n rows) u e st.rank (λ x. pos (T.coord l x)) st.is_coord (st.crd_length e) built))
+      (crd-written T l l.role at (count_below k.kind k.size n rows) u e st.rank (λ x. pos (T.coord l x)) st.is_coord (st.crd_length (writes-number l.role e)) built))
 
-  crd-of : (r : Role) (z : Kind) → Suits (numbering_of r) z → (r ≡ role.Counted → ⊥) → (z ≡ Full → ⊥) → writes_crd r ≡ true
+  crd-of : (r : Role) (z : Kind) → Suits (numbering_of r) z → Fills r → (z ≡ Full → ⊥) → writes_crd r ≡ true
   crd-of role.Full Full s c f = absurd (f refl)
   crd-of role.Shared z s c f = refl
   crd-of role.Single z s c f = refl
   crd-of role.AtPosition z s c f = refl
   crd-of role.AtRank z s c f = refl
-  crd-of role.Counted z s c f = absurd (c refl)
+  crd-of role.Counted z s c f = absurd c
+  crd-of role.Marked z s c f = absurd c
+  crd-of role.Kept z s c f = absurd c
   crd-of role.Full _ s c f = absurd s
 
-  starts-of : (r : Role) (z : Kind) → Suits (numbering_of r) z → (r ≡ role.Counted → ⊥) → (z ≡ Full → ⊥) → (z ≡ Slot → ⊥) → has_starts r ≡ true
+  pub starts-of : (r : Role) (z : Kind) → Suits (numbering_of r) z → (r ≡ role.Counted → ⊥) → (z ≡ Full → ⊥) → (z ≡ Slot → ⊥) → has_starts r ≡ true
   starts-of role.Full Full s c f g = absurd (f refl)
   starts-of role.Shared z s c f g = refl
   starts-of role.Single z s c f g = refl
   starts-of role.AtPosition Slot s c f g = absurd (g refl)
   starts-of role.AtRank Slot s c f g = absurd (g refl)
   starts-of role.Counted z s c f g = absurd (c refl)
+  starts-of role.Marked z s c f g = refl
+  starts-of role.Kept Slot s c f g = absurd (g refl)
   starts-of _ _ s c f g = absurd s
 
-  pub built-here : (z : Kind) → k.kind ≡ z → (l.role ≡ role.Counted → ⊥) → IsBuilt z (taken_of T l) k.size n rows at (lists_in u l)
+  not-counted : (r : Role) → Fills r → r ≡ role.Counted → ⊥
+  not-counted r f e = subst Fills e f
+
+  pub built-here : (z : Kind) → k.kind ≡ z → Fills l.role → IsBuilt z (taken_of T l) k.size n rows at (lists_in u l)
   built-here Full e c = tt
   built-here Compressed e c = (
-    starts-here (starts-of l.role Compressed (subst (Suits (numbering_of l.role)) e st.suits) c (λ q. cc) (λ q. cc)),
+    starts-here (starts-of l.role Compressed (subst (Suits (numbering_of l.role)) e st.suits) (not-counted l.role c) (λ q. cc) (λ q. cc)),
     subst (λ (z : Kind). AreWritten (length rows) (under (taken_of T l) k.size at) (λ x. pos (T.coord l x)) (count_below z k.size n rows) (u.bufs (l.first + 1))) e
         (cells-here (crd-of l.role Compressed (subst (Suits (numbering_of l.role)) e st.suits) c (λ q. cc))),
   )
   built-here Listed e c = (
-    starts-here (starts-of l.role Listed (subst (Suits (numbering_of l.role)) e st.suits) c (λ q. cc) (λ q. cc)),
+    starts-here (starts-of l.role Listed (subst (Suits (numbering_of l.role)) e st.suits) (not-counted l.role c) (λ q. cc) (λ q. cc)),
     subst (λ (z : Kind). AreWritten (length rows) (under (taken_of T l) k.size at) (λ x. pos (T.coord l x)) (count_below z k.size n rows) (u.bufs (l.first + 1))) e
         (cells-here (crd-of l.role Listed (subst (Suits (numbering_of l.role)) e st.suits) c (λ q. cc))),
   )

@@ -4,13 +4,21 @@ use Rattle.us_code.specs.Run.{State}
 use Rattle.us_format.specs.Kinds.{Level}
 use Rattle.us_format.specs.Positions.{Row, count_below, down}
 use Rattle.us_running.specs.Running.{less_one}
+use Rattle.us_gen_build.specs.declared.levels.Role.{Role}
 use Rattle.us_gen_build.specs.declared.levels.Role.TheVariants as role
 use Rattle.us_gen_build.specs.Levels.{LevelTree}
 use Rattle.us_gen_build_laws.specs.Built.{Lists}
 
--- each level fills buffers, and one behind them the values
+-- whether a level fills its own buffers: none that only counts its nodes, and none whose coordinates are in a pack
+abbrev pub Fills : Role → Type 0
+Fills role.Counted = ⊥
+Fills role.Marked = ⊥
+Fills role.Kept = ⊥
+Fills _ = Unit {0}
+
+-- each level fills its buffers, and one behind them the values
 abbrev pub FillBuffers : List LevelTree → List Level → Type 0
-FillBuffers (l ∷ ls) (k ∷ ks) = (l.role ≡ role.Counted → ⊥) × FillBuffers ls ks
+FillBuffers (l ∷ ls) (k ∷ ks) = Fills l.role × FillBuffers ls ks
 FillBuffers (l ∷ []) [] = Unit {0}
 FillBuffers _ _ = ⊥
 

@@ -1,5 +1,5 @@
 -- Levels of a building loop that stand for levels of a format.
-use Rattle.std.specs.Prelude.{◌≡◌, ℕ, ◌+◌, ◌*◌, ◌^◌, ◌<◌, ◌≤◌, Bool, true, false, List, [], ◌∷◌, IsTrue, pos}
+use Rattle.std.specs.Prelude.{◌≡◌, ℕ, ◌+◌, ◌*◌, ◌^◌, ◌<◌, ◌≤◌, Bool, true, false, ◌||◌, List, [], ◌∷◌, IsTrue, pos}
 use Rattle.us_code.specs.Run.{size_of, value}
 use Rattle.us_format.specs.declared.Kind.TheVariants.{Compressed}
 use Rattle.us_format.specs.Kinds.{Level}
@@ -21,6 +21,8 @@ numbering_of role.Single = Ranked
 numbering_of role.AtPosition = Kept
 numbering_of role.AtRank = Kept
 numbering_of role.Counted = Counted
+numbering_of role.Marked = Ranked
+numbering_of role.Kept = Kept
 
 abbrev pub taken_of : Turns → LevelTree → Taken
 taken_of T l = record { numbering = numbering_of l.role; coordinate = T.coord l }
@@ -28,6 +30,10 @@ taken_of T l = record { numbering = numbering_of l.role; coordinate = T.coord l 
 -- whether a level has a list of where the positions under each one start
 abbrev pub has_starts : Role → Bool
 has_starts r = marks_pos r false
+
+-- whether a level uses the number of its positions
+abbrev pub has_number : Role → Bool
+has_number r = writes_crd r || has_starts r
 
 -- whether a level only stores a number for each entry
 abbrev pub Spreads : Role → Type 0
@@ -54,7 +60,7 @@ module _ (T : Turns) where
     -- lengths, and numbers that don't wrap
     pub pos_length : has_starts l.role ≡ true → size_of T.env l.pos_length ≡ n + 1
     pub top : l.is_top ≡ true → n ≡ 1
-    pub crd_length : writes_crd l.role ≡ true → size_of T.env l.crd_length ≡ count_below k.kind k.size n rows
+    pub crd_length : has_number l.role ≡ true → size_of T.env l.crd_length ≡ count_below k.kind k.size n rows
     pub few : n < 2 ^ 62
     pub fits : has_key l.role ≡ true → (q c : ℕ) → q < n → c < k.size → q * k.size + c < 2 ^ 63
 

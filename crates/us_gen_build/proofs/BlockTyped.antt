@@ -14,7 +14,7 @@ use Rattle.us_gen.specs.Levels.{size_term}
 use Rattle.us_gen.specs.Rooms.{FreshFrom}
 use Rattle.us_gen.proofs.NestsFit.{fresh_more}
 use Rattle.us_gen_build.specs.declared.levels.Role.{Role}
-use Rattle.us_gen_build.specs.declared.levels.Role.TheVariants.{Full, Shared, Single, AtPosition, AtRank, Counted}
+use Rattle.us_gen_build.specs.declared.levels.Role.TheVariants.{Full, Shared, Single, AtPosition, AtRank, Counted, Marked, Kept}
 use Rattle.us_gen_build.specs.Levels.{LevelTree, levels, open_of, opens}
 use Rattle.us_gen_build.specs.Loops.{loads, entry_of, picked, levels_from, entry_loop, fill_up}
 use Rattle.us_gen_build.specs.Blocks.{close_pos, close_of, closes}
@@ -23,7 +23,7 @@ use Rattle.us_gen_build.proofs.LoopRun.{entry_low, entry_high, put_alike}
 use Rattle.us_gen_build.proofs.Wider.{dim_wider, fine_wider, reg_wider}
 use Rattle.us_gen_build.proofs.LevelsTyped.{fits_itself, store_typed, LevelKinds, AllKinds, levels_typed}
 
-fresh_up : (g : Context) (lo hi : ℕ) → lo ≤ hi → FreshFrom g lo → FreshFrom g hi
+pub fresh_up : (g : Context) (lo hi : ℕ) → lo ≤ hi → FreshFrom g lo → FreshFrom g hi
 fresh_up g lo hi le f = record { none = λ x h. f.none x (omega (arith, h, le)) }
 
 none_some : {A : Type 0} {B : Type 0} (o : Option A) (k : A) → o ≡ None → o ≡ Some k → B
@@ -39,16 +39,18 @@ open_other Single l f x a b = refl
 open_other AtPosition l f x a b = refl
 open_other AtRank l f x a b = refl
 open_other Counted l f x a b = put_other (put f l.first word) (l.first + 1) _ x b ∙ put_other f l.first _ x a
+open_other Marked l f x a b = refl
+open_other Kept l f x a b = refl
 
 pub rise_up : (ls : List LevelTree) (lo n : ℕ) → NamesRise lo ls n → lo ≤ n
 rise_up [] lo n h = h
 rise_up (l ∷ ls) lo n h = omega (arith, h.0, rise_up ls (l.first + 4) n h.1)
 
-open_low : (ls : List LevelTree) (lo n x : ℕ) (f : ℕ → Option RegKind) → NamesRise lo ls n → x < lo → open_kinds ls f x ≡ f x
+pub open_low : (ls : List LevelTree) (lo n x : ℕ) (f : ℕ → Option RegKind) → NamesRise lo ls n → x < lo → open_kinds ls f x ≡ f x
 open_low [] lo n x f h lt = refl
 open_low (l ∷ ls) lo n x f h lt = open_low ls (l.first + 4) n x (open_kind l.role l f) h.1 (omega (arith, lt, h.0)) ∙ open_other l.role l f x (λ e. omega (arith, e, lt, h.0)) (λ e. omega (arith, e, lt, h.0))
 
-open_high : (ls : List LevelTree) (lo n x : ℕ) (f : ℕ → Option RegKind) → NamesRise lo ls n → n ≤ x → open_kinds ls f x ≡ f x
+pub open_high : (ls : List LevelTree) (lo n x : ℕ) (f : ℕ → Option RegKind) → NamesRise lo ls n → n ≤ x → open_kinds ls f x ≡ f x
 open_high [] lo n x f h le = refl
 open_high (l ∷ ls) lo n x f h le =
     let up = rise_up ls (l.first + 4) n h.1 in
@@ -60,12 +62,14 @@ open_typed Shared g l rest f t = (f.none l.first (omega arith), refl, (put_other
 open_typed Single g l rest f t = t
 open_typed AtPosition g l rest f t = t
 open_typed AtRank g l rest f t = t
+open_typed Marked g l rest f t = t
+open_typed Kept g l rest f t = t
 open_typed Counted g l rest f t = (f.none l.first (omega arith), refl, (put_other g.regs l.first _ (l.first + 1) (omega arith) ∙ f.none (l.first + 1) (omega arith), refl, t))
 
 open_fresh : (r : Role) (g : Context) (l : LevelTree) (lo : ℕ) → lo ≤ l.first → FreshFrom g lo → FreshFrom (with_regs g (open_kind r l g.regs)) (l.first + 4)
 open_fresh r g l lo le f = record { none = λ x h. open_other r l g.regs x (λ e. omega (arith, e, h)) (λ e. omega (arith, e, h)) ∙ f.none x (omega (arith, h, le)) }
 
-opens_typed : (ls : List LevelTree) (lo n : ℕ) (g : Context) (rest : Code) → FreshFrom g lo → NamesRise lo ls n → Typed (opened g ls) rest → Typed g (opens ls rest)
+pub opens_typed : (ls : List LevelTree) (lo n : ℕ) (g : Context) (rest : Code) → FreshFrom g lo → NamesRise lo ls n → Typed (opened g ls) rest → Typed g (opens ls rest)
 opens_typed [] lo n g rest f h t = t
 opens_typed (l ∷ ls) lo n g rest f h t =
     open_typed l.role g l (opens ls rest) (fresh_up g lo l.first h.0 f) (opens_typed ls (l.first + 4) n (with_regs g (open_kind l.role l g.regs)) rest (open_fresh l.role g l lo h.0 f) h.1 t)
@@ -76,7 +80,7 @@ load_low : (bufs : ℕ → Option BufKind) (cols : List ℕ) (k : ℕ) (f : ℕ 
 load_low bufs [] k f x lt = refl
 load_low bufs (b ∷ bs) k f x lt = load_low bufs bs (k + 1) (put f k _) x (omega (arith, lt)) ∙ put_other f k _ x (λ e. omega (arith, e, lt))
 
-load_high : (bufs : ℕ → Option BufKind) (cols : List ℕ) (k : ℕ) (f : ℕ → Option RegKind) (x : ℕ) → k + length cols ≤ x → load_kinds bufs cols k f x ≡ f x
+pub load_high : (bufs : ℕ → Option BufKind) (cols : List ℕ) (k : ℕ) (f : ℕ → Option RegKind) (x : ℕ) → k + length cols ≤ x → load_kinds bufs cols k f x ≡ f x
 load_high bufs [] k f x le = refl
 load_high bufs (b ∷ bs) k f x le = load_high bufs bs (k + 1) (put f k _) x (omega (arith, le)) ∙ put_other f k _ x (λ e. omega (arith, e, le))
 
@@ -88,7 +92,7 @@ turn_at : (order : Option ℕ) (d : Dim) (a : ℕ) (f : ℕ → Option RegKind) 
 turn_at None d a f = put_same f a _
 turn_at (Some p) d a f = put_other (put f a (below_dim d)) (a + 1) _ a (omega arith) ∙ put_same f a _
 
-turn_other : (order : Option ℕ) (d : Dim) (a x : ℕ) (f : ℕ → Option RegKind) → (a ≤ x → entry_of order a < x) → turn_kinds order d a f x ≡ f x
+pub turn_other : (order : Option ℕ) (d : Dim) (a x : ℕ) (f : ℕ → Option RegKind) → (a ≤ x → entry_of order a < x) → turn_kinds order d a f x ≡ f x
 turn_other None d a x f h = put_other f a _ x (λ e. let z = h (omega (arith, e)) in omega (arith, z, e))
 turn_other (Some p) d a x f h = put_other (put f a (below_dim d)) (a + 1) _ x (λ e. let z = h (omega (arith, e)) in omega (arith, z, e)) ∙ put_other f a _ x (λ e. let z = h (omega (arith, e)) in omega (arith, z, e))
 
@@ -106,7 +110,7 @@ loads_typed (b ∷ bs) h k e d rest he lt none c t = (
   loads_typed bs (with_reg h k false (buf_cell (h.bufs b))) (k + 1) e d rest (put_other h.regs k _ e (λ q. omega (arith, q, lt)) ∙ he) (omega (arith, lt)) (λ x p q. put_other h.regs k _ x (λ z. omega (arith, z, p)) ∙ none x (omega (arith, p)) (omega (arith, q))) c.2 t,
 )
 
-turn_typed : (order : Option ℕ) (g : Context) (d : Dim) (cols : List ℕ) (a : ℕ) (rest : Code) → ((x : ℕ) → a ≤ x → x < levels_from order cols a → g.regs x ≡ None) → OrderFits g.bufs d order → ColumnsFit g.bufs d cols → Typed (in_turn g d order cols a) rest
+pub turn_typed : (order : Option ℕ) (g : Context) (d : Dim) (cols : List ℕ) (a : ℕ) (rest : Code) → ((x : ℕ) → a ≤ x → x < levels_from order cols a → g.regs x ≡ None) → OrderFits g.bufs d order → ColumnsFit g.bufs d cols → Typed (in_turn g d order cols a) rest
     → Typed (with_reg g a false (kind.Below d)) (picked order a (loads cols (entry_of order a + 1) (entry_of order a) rest))
 turn_typed None g d cols a rest none o c t =
     loads_typed cols (with_reg g a false (kind.Below d)) (a + 1) a d rest (put_same g.regs a _) (omega arith) (λ x p q. put_other g.regs a _ x (λ z. omega (arith, z, p)) ∙ none x (omega (arith, p)) (omega (arith, q))) c t
@@ -157,6 +161,12 @@ level_kinds AtPosition l f g h d a here none w at c = record {
   buffer = w.bufs (l.first + 1) _ c.buffer;
 }
 level_kinds AtRank l f g h d a here none w at c = record { within = ap (λ (o : Option RegKind). fits (reg_kind o) l.crd_length) at ∙ c.1; buffer = w.bufs (l.first + 1) _ c.0.buffer }
+level_kinds Marked l f g h d a here none w at c = record {
+  index = here (l.first + 2) (omega arith) (omega arith) ∙ none (l.first + 2) (omega arith);
+  sees = dim_wider g h w l.pos_length c.0.sees;
+  buffer = w.bufs l.first _ c.0.buffer;
+}
+level_kinds Kept l f g h d a here none w at c = tt
 level_kinds Counted l f g h d a here none w at c = record {
   last = here l.first (omega arith) (omega arith) ∙ (put_other (put f l.first word) (l.first + 1) _ l.first (omega arith) ∙ put_same f l.first _);
   node = here (l.first + 1) (omega arith) (omega arith) ∙ put_same (put f l.first word) (l.first + 1) _;
@@ -222,15 +232,17 @@ close_typed Single g h d l n rest w f c end = pos_typed l.is_top g h l n rest c.
 close_typed AtPosition g h d l n rest w f c end = end h w (fresh_up h n (n + 3) (omega arith) f)
 close_typed AtRank g h d l n rest w f c end = end h w (fresh_up h n (n + 3) (omega arith) f)
 close_typed Counted g h d l n rest w f c end = end h w (fresh_up h n (n + 3) (omega arith) f)
+close_typed Marked g h d l n rest w f c end = pos_typed l.is_top g h l n rest c.0.two w f c.0 c.1 end
+close_typed Kept g h d l n rest w f c end = end h w (fresh_up h n (n + 3) (omega arith) f)
 
-closes_typed : (ls : List LevelTree) (n : ℕ) (g g2 h : Context) (d : Dim) → Wider g h → FreshFrom h n → AllFit g g2 d ls → Typed h (closes ls n)
+pub closes_typed : (ls : List LevelTree) (n : ℕ) (g g2 h : Context) (d : Dim) → Wider g h → FreshFrom h n → AllFit g g2 d ls → Typed h (closes ls n)
 closes_typed [] n g g2 h d w f c = tt
 closes_typed (l ∷ ls) n g g2 h d w f c = close_typed l.role g h d l n (closes ls (n + 3)) w f c.0 (λ k v e. closes_typed ls (n + 3) g g2 k d v e c.3)
 
 -- ---- the whole block
 
 module _ (g : Context) (d : Dim) (order : Option ℕ) (cols : List ℕ) (ls : List LevelTree) (a n : ℕ) (f : FreshFrom g a) (rise : NamesRise (levels_from order cols a) ls n) where
-  low : (x : ℕ) → x < levels_from order cols a → open_kinds ls g.regs x ≡ g.regs x
+  pub low : (x : ℕ) → x < levels_from order cols a → open_kinds ls g.regs x ≡ g.regs x
   low x lt = open_low ls (levels_from order cols a) n x g.regs rise lt
 
   below_a : (x : ℕ) (k : RegKind) → g.regs x ≡ Some k → x < a
@@ -240,13 +252,13 @@ module _ (g : Context) (d : Dim) (order : Option ℕ) (cols : List ℕ) (ls : Li
       case (inl h) = h
       case (inr h) = none_some (g.regs x) k (f.none x h) s
 
-  opened_wider : Wider g (opened g ls)
+  pub opened_wider : Wider g (opened g ls)
   opened_wider = record { sources = λ x s. s; regs = λ x k s. low x (omega (arith, below_a x k s, entry_low order a)) ∙ s; bufs = λ x k s. s; dims = λ x k s. s }
 
-  opened_fresh : FreshFrom (opened g ls) n
+  pub opened_fresh : FreshFrom (opened g ls) n
   opened_fresh = record { none = λ x h. open_high ls (levels_from order cols a) n x g.regs rise h ∙ f.none x (omega (arith, h, rise_up ls (levels_from order cols a) n rise, entry_low order a)) }
 
-  turn_wider : Wider g (in_turn (opened g ls) d order cols a)
+  pub turn_wider : Wider g (in_turn (opened g ls) d order cols a)
   turn_wider = record {
     sources = λ x s. s;
     regs = λ x k s.
@@ -257,7 +269,7 @@ module _ (g : Context) (d : Dim) (order : Option ℕ) (cols : List ℕ) (ls : Li
     dims = λ x k s. s;
   }
 
-  turns_wider : Wider (in_turn g d order cols a) (in_turn (opened g ls) d order cols a)
+  pub turns_wider : Wider (in_turn g d order cols a) (in_turn (opened g ls) d order cols a)
   turns_wider = record { sources = λ x s. s; regs = λ x k s. case x k s (cases_lt x (levels_from order cols a)); bufs = λ x k s. s; dims = λ x k s. s }
     where
       case : (x : ℕ) (k : RegKind) → (in_turn g d order cols a).regs x ≡ Some k → (x < levels_from order cols a) ⊎ (levels_from order cols a ≤ x) → (in_turn (opened g ls) d order cols a).regs x ≡ Some k
@@ -271,17 +283,17 @@ module _ (g : Context) (d : Dim) (order : Option ℕ) (cols : List ℕ) (ls : Li
           ∙ (turn_other order d a x g.regs (λ h. omega (arith, ge)) ∙ f.none x (omega (arith, ge, entry_low order a))) in
           none_some ((in_turn g d order cols a).regs x) k high s
 
-  at_turn : (in_turn (opened g ls) d order cols a).regs a ≡ below_dim d
+  pub at_turn : (in_turn (opened g ls) d order cols a).regs a ≡ below_dim d
   at_turn = load_low g.bufs cols (entry_of order a + 1) (turn_kinds order d a (open_kinds ls g.regs)) a (omega (arith, entry_low order a)) ∙ turn_at order d a (open_kinds ls g.regs)
 
-  inside_typed : AllFit g (in_turn g d order cols a) d ls → Typed (in_turn (opened g ls) d order cols a) (levels ls (Number 0) a)
-  inside_typed c =
-      levels_typed (in_turn (opened g ls) d order cols a) ls (Number 0) a
-      (all_kinds ls (levels_from order cols a) n g.regs g (in_turn g d order cols a) (in_turn (opened g ls) d order cols a) d a
+  pub inside_kinds : AllFit g (in_turn g d order cols a) d ls → AllKinds (in_turn (opened g ls) d order cols a) ls a
+  inside_kinds c =
+      all_kinds ls (levels_from order cols a) n g.regs g (in_turn g d order cols a) (in_turn (opened g ls) d order cols a) d a
       (λ x h. load_high g.bufs cols (entry_of order a + 1) (turn_kinds order d a (open_kinds ls g.regs)) x (omega (arith, h)) ∙ turn_other order d a x (open_kinds ls g.regs) (λ z. omega (arith, h)))
-      (λ x h. f.none x (omega (arith, h, entry_low order a))) rise turn_wider turns_wider at_turn c)
-      (ap is_some at_turn)
-      refl
+      (λ x h. f.none x (omega (arith, h, entry_low order a))) rise turn_wider turns_wider at_turn c
+
+  pub inside_typed : AllFit g (in_turn g d order cols a) d ls → Typed (in_turn (opened g ls) d order cols a) (levels ls (Number 0) a)
+  inside_typed c = levels_typed (in_turn (opened g ls) d order cols a) ls (Number 0) a (inside_kinds c) (ap is_some at_turn) refl
 
 pub blocks_typed : BlocksTyped
 blocks_typed g d order cols ls a n f sees o c rise fit =

@@ -15,7 +15,7 @@ use Rattle.us_running.specs.Laws.{DoNotFall}
 use Rattle.us_running.proofs.Running.{table_set, table_same, table_moved, written_cong, marks-written, all-numbered}
 use Rattle.us_running.proofs.Marks.{top_is}
 use Rattle.us_gen_build.specs.declared.levels.Role.{Role}
-use Rattle.us_gen_build.specs.declared.levels.Role.TheVariants.{Full, Shared, Single, AtPosition, AtRank, Counted}
+use Rattle.us_gen_build.specs.declared.levels.Role.TheVariants.{Full, Shared, Single, AtPosition, AtRank, Counted, Marked, Kept}
 use Rattle.us_gen_build.specs.Levels.{LevelTree, opens}
 use Rattle.us_gen_build.specs.Turns.{Turns, IsSameOutside, names_end, keys, shared_marks, single_marks, LevelAfter, LevelsAfter, AllNeed, inside}
 use Rattle.us_gen_build.specs.Loops.{entry_of, entry_loop, fill_up, turned, held_at, at_top, LoopNeeds, FilledUp, AllZero}
@@ -106,6 +106,10 @@ module _ (T : Turns) where
       (λ u p. end u record { built = (p.cells, table_moved _ _ _ _ (p.bufs (l.first + 1) (omega arith)) i.cells); bufs = p.bufs; regs = p.regs; steps = p.steps })
   level_closes AtPosition l at n rest s Q c i end = end s record { built = i.cells; bufs = λ b h. refl; regs = λ x h. refl; steps = omega arith }
   level_closes AtRank l at n rest s Q c i end = end s record { built = i.cells; bufs = λ b h. refl; regs = λ x h. refl; steps = omega arith }
+  level_closes Marked l at n rest s Q c i end =
+      pos_closes l.is_top l n (λ y. true) at rest s Q c.two c.rises (table_same _ _ _ _ (single_are l.is_top l at refl) i.marks)
+      (λ u p. end u record { built = p.cells; bufs = p.bufs; regs = p.regs; steps = p.steps })
+  level_closes Kept l at n rest s Q c i end = end s record { built = tt; bufs = λ b h. refl; regs = λ x h. refl; steps = omega arith }
   level_closes Counted l at n rest s Q c i end = end s record { built = i; bufs = λ b h. refl; regs = λ x h. refl; steps = omega arith }
 
   built_reads : (r : Role) (l : LevelTree) (at : ℕ → ℕ) (s u : State) → ((y : ℕ) → l.first ≤ y → y < l.first + 4 → u.regs y ≡ s.regs y) → ((y : ℕ) → l.first ≤ y → y < l.first + 4 → u.bufs y ≡ s.bufs y) → blocks.LevelBuilt T r l at s → blocks.LevelBuilt T r l at u
@@ -114,16 +118,18 @@ module _ (T : Turns) where
   built_reads Single l at s u f g i = (table_moved _ _ _ _ (g l.first (omega arith) (omega arith)) i.0, table_moved _ _ _ _ (g (l.first + 1) (omega arith) (omega arith)) i.1)
   built_reads AtPosition l at s u f g i = table_moved _ _ _ _ (g (l.first + 1) (omega arith) (omega arith)) i
   built_reads AtRank l at s u f g i = table_moved _ _ _ _ (g (l.first + 1) (omega arith) (omega arith)) i
+  built_reads Marked l at s u f g i = table_moved _ _ _ _ (g l.first (omega arith) (omega arith)) i
+  built_reads Kept l at s u f g i = tt
   built_reads Counted l at s u f g i = record { last = f l.first (omega arith) (omega arith) ∙ i.last; node = f (l.first + 1) (omega arith) (omega arith) ∙ i.node }
 
   -- the ends of all levels
-  record AllClosed (lo : ℕ) (ls : List LevelTree) (at : ℕ → ℕ) (n : ℕ) (s u : State) : Type 0 where
+  pub record AllClosed (lo : ℕ) (ls : List LevelTree) (at : ℕ → ℕ) (n : ℕ) (s u : State) : Type 0 where
     pub built : blocks.AllBuilt T ls at u
     pub bufs : (b : ℕ) → (lo ≤ b → names_end lo ls ≤ b) → u.bufs b ≡ s.bufs b
     pub regs : (r : ℕ) → r < n → u.regs r ≡ s.regs r
     pub steps : u.steps ≤ s.steps + blocks.close_costs T ls
 
-  closes_do : (ls : List LevelTree) (lo : ℕ) (at : ℕ → ℕ) (n : ℕ) (s : State) → AllNeed T lo ls at → blocks.AllClose T ls at → names_end lo ls ≤ n → LevelsAfter T ls at T.count s → Does T.env (closes ls n) s (AllClosed lo ls at n s)
+  pub closes_do : (ls : List LevelTree) (lo : ℕ) (at : ℕ → ℕ) (n : ℕ) (s : State) → AllNeed T lo ls at → blocks.AllClose T ls at → names_end lo ls ≤ n → LevelsAfter T ls at T.count s → Does T.env (closes ls n) s (AllClosed lo ls at n s)
   closes_do [] lo at n s w c le i = do_end T.env s _ record { built = tt; bufs = λ b h. refl; regs = λ r h. refl; steps = omega arith }
   closes_do (l ∷ ls) lo at n s w c le i =
       let up = names_up T ls (l.first + 4) (inside T l at) w.2 in
@@ -142,7 +148,7 @@ module _ (T : Turns) where
   turned_same None f g a x e h r lt = put_alike g f a (pos x) (pos x) r refl (λ ne. h r lt)
   turned_same (Some p) f g a x e h r lt = put_alike _ _ (a + 1) (pos e) (pos e) r refl (λ ne. put_alike g f a (pos x) (pos x) r refl (λ no. h r lt))
 
-  needs_stay : (d : Dim) (order : Option ℕ) (cols : List ℕ) (ls : List LevelTree) (place : ℕ → ℕ) (s u : State) → u.bufs ≡ s.bufs → ((r : ℕ) → r < T.base → u.regs r ≡ s.regs r) → LoopNeeds T d order cols ls place s → LoopNeeds T d order cols ls place u
+  pub needs_stay : (d : Dim) (order : Option ℕ) (cols : List ℕ) (ls : List LevelTree) (place : ℕ → ℕ) (s u : State) → u.bufs ≡ s.bufs → ((r : ℕ) → r < T.base → u.regs r ≡ s.regs r) → LoopNeeds T d order cols ls place s → LoopNeeds T d order cols ls place u
   needs_stay d order cols ls place s u eb er w =
       let same : (b : ℕ) → b < T.base → u.bufs b ≡ s.bufs b = λ b h. ap (λ (f : ℕ → List ℤ). f b) eb in
       let e = entry_of order T.turn in

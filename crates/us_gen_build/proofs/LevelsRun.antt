@@ -11,7 +11,7 @@ use Rattle.us_code_laws.proofs.Does.{do_end, do_weaker, do_put, do_set, do_when,
 use Rattle.us_running.specs.Running.{is_new, seen, less_one, written, Table}
 use Rattle.us_running.proofs.Running.{table_set, table_same, table_moved, seen_up, ever}
 use Rattle.us_gen_build.specs.declared.levels.Role.{Role}
-use Rattle.us_gen_build.specs.declared.levels.Role.TheVariants.{Full, Shared, Single, AtPosition, AtRank, Counted}
+use Rattle.us_gen_build.specs.declared.levels.Role.TheVariants.{Full, Shared, Single, AtPosition, AtRank, Counted, Marked, Kept}
 use Rattle.us_gen_build.specs.Levels.{LevelTree, under, mark, block_of, below_of, levels}
 use Rattle.us_gen_build.specs.Turns.{Turns, position_of, has_key, Reads, IsSameOutside, names_end, LevelsTakeEntries}
 use Rattle.us_gen_build.specs.Turns as turns
@@ -24,7 +24,7 @@ some_seen : (K : ℕ → ℕ) (x : ℕ) → is_new K x ≡ false → 1 ≤ seen 
 some_seen K zero h = absurd cc
 some_seen K (suc x) h = ever K x
 
-less_pos : (a b : ℕ) → b ≡ a → 1 ≤ a → less_one a ≡ pos (b - 1)
+pub less_pos : (a b : ℕ) → b ≡ a → 1 ≤ a → less_one a ≡ pos (b - 1)
 less_pos zero b e h = absurd (omega (arith, h))
 less_pos (suc a) b e h = let q : a ≡ b - 1 = omega (arith, e) in ap pos q
 
@@ -56,6 +56,8 @@ module _ (T : Turns) where
   }
   level_reads Single l at x s u f g i = record { marks = table_moved _ _ _ _ (g l.first (omega arith) (omega arith)) i.marks; cells = table_moved _ _ _ _ (g (l.first + 1) (omega arith) (omega arith)) i.cells }
   level_reads Counted l at x s u f g i = record { last = f l.first (omega arith) (omega arith) ∙ i.last; node = f (l.first + 1) (omega arith) (omega arith) ∙ i.node }
+  level_reads Marked l at x s u f g i = record { marks = table_moved _ _ _ _ (g l.first (omega arith) (omega arith)) i.marks }
+  level_reads Kept l at x s u f g i = tt
   level_reads AtPosition l at x s u f g i = record { cells = table_moved _ _ _ _ (g (l.first + 1) (omega arith) (omega arith)) i.cells }
   level_reads AtRank l at x s u f g i = record { cells = table_moved _ _ _ _ (g (l.first + 1) (omega arith) (omega arith)) i.cells }
 
@@ -69,10 +71,10 @@ module _ (T : Turns) where
   held_value : (r : Role) (l : LevelTree) (at : ℕ → ℕ) (x : ℕ) (s : State) → turns.Needs T r l at → turns.Holds T x s → value T.env s.regs l.coord ≡ value T.env (T.held x) l.coord
   held_value r l at x s v h = value_stays T.env T.base l.coord (T.held x) s.regs v.reads_coord h.regs
 
-  held_coord : (r : Role) (l : LevelTree) (at : ℕ → ℕ) (x : ℕ) (s : State) → has_key r ≡ true → x < T.count → turns.Needs T r l at → turns.Holds T x s → value T.env s.regs l.coord ≡ pos (T.coord l x)
+  pub held_coord : (r : Role) (l : LevelTree) (at : ℕ → ℕ) (x : ℕ) (s : State) → has_key r ≡ true → x < T.count → turns.Needs T r l at → turns.Holds T x s → value T.env s.regs l.coord ≡ pos (T.coord l x)
   held_coord r l at x s k lt v h = held_value r l at x s v h ∙ v.is_coord x lt k
 
-  held_size : (r : Role) (l : LevelTree) (at : ℕ → ℕ) (x : ℕ) (s : State) → has_key r ≡ true → x < T.count → turns.Needs T r l at → turns.Holds T x s → value T.env s.regs l.size ≡ pos (T.wide l)
+  pub held_size : (r : Role) (l : LevelTree) (at : ℕ → ℕ) (x : ℕ) (s : State) → has_key r ≡ true → x < T.count → turns.Needs T r l at → turns.Holds T x s → value T.env s.regs l.size ≡ pos (T.wide l)
   held_size r l at x s k lt v h = value_stays T.env T.base l.size (T.held x) s.regs v.reads_size h.regs ∙ v.is_size x lt k
 
   full_does : LevelDoes Full
@@ -253,6 +255,20 @@ module _ (T : Turns) where
       case true e = counted_new l at q x rest s Q lt few v h rq eq i end e
       case false e = counted_old l at q x rest s Q lt few v h rq eq i end e
 
+  marked_does : LevelDoes Marked
+  marked_does l at q x rest s Q lt few v h rq eq i end =
+      let k = l.first in
+      mark_does T.env l.is_top l q (Add (Reg T.turn) (Number 1)) rest s Q (at x) (size_of T.env l.pos_length) (pos (x + 1)) _ eq (v.small_at x lt) (λ e. (refl, v.in_pos x lt (ap not e))) (omega (arith, h.within, v.room), tt) (add_one _ x h.turn (omega (arith, lt, few))) i.marks
+      (λ u regs bufs marks steps.
+      end u record { regs = λ r g. regs r (λ e. let b = g (omega (arith, e)) in absurd (omega (arith, e, b))); bufs = λ c g. bufs c (λ e. let b = g (omega (arith, e)) in absurd (omega (arith, e, b))) }
+      record { marks = marks }
+      (omega (arith, h.within, v.room))
+      (regs T.turn (omega (arith, v.room, h.within)) ∙ h.turn)
+      (omega (arith, steps)))
+
+  kept_does : LevelDoes Kept
+  kept_does l at q x rest s Q lt few v h rq eq i end = end s record { regs = λ r g. refl; bufs = λ b g. refl } tt (reads_more l.first (l.first + 4) (omega arith) q rq) eq (omega arith)
+
   pub level_does : (r : Role) → LevelDoes r
   level_does Full = full_does
   level_does Shared = shared_does
@@ -260,6 +276,8 @@ module _ (T : Turns) where
   level_does AtPosition = position_does
   level_does AtRank = at_rank_does
   level_does Counted = counted_does
+  level_does Marked = marked_does
+  level_does Kept = kept_does
 
   pub names_up : (ls : List LevelTree) (lo : ℕ) (at : ℕ → ℕ) → turns.AllNeed T lo ls at → lo ≤ names_end lo ls
   names_up [] lo at h = omega arith

@@ -12,7 +12,7 @@ use Rattle.us_code_laws.proofs.Sequence.{put_same, put_other}
 use Rattle.us_code_laws.proofs.Sound.{both_true}
 use Rattle.us_gen.specs.Nest.{is_origin}
 use Rattle.us_gen_build.specs.declared.levels.Role.{Role}
-use Rattle.us_gen_build.specs.declared.levels.Role.TheVariants.{Full, Shared, Single, AtPosition, AtRank, Counted}
+use Rattle.us_gen_build.specs.declared.levels.Role.TheVariants.{Full, Shared, Single, AtPosition, AtRank, Counted, Marked, Kept}
 use Rattle.us_gen_build.specs.Levels.{LevelTree, under, mark, cell_at, new_node, if_new, block_of, below_of, levels}
 use Rattle.us_gen_build.specs.Kinds.{word, words_of}
 use Rattle.us_gen_build.proofs.Wider.{fine_wider, reg_wider}
@@ -55,16 +55,18 @@ LevelKinds g Single l x = MarkKinds g l × RankKinds g l x
 LevelKinds g AtPosition l x = CellKinds g l
 LevelKinds g AtRank l x = RankKinds g l x
 LevelKinds g Counted l x = CounterKinds g l
+LevelKinds g Marked l x = MarkKinds g l
+LevelKinds g Kept l x = Unit {0}
 
 -- a store of a word into a buffer of words, where the place fits
 pub store_typed : (g : Context) (b : ℕ) (d : Dim) (at : TermTree) (e : TermTree) (rest : Code) → g.bufs b ≡ words_of d → fine g at ≡ true → fine g e ≡ true → fits (kind_of g at) d ≡ true → Typed g rest → Typed g (Set (buf.New b) at e rest)
 store_typed g b d at e rest is ha he hf t =
     (refl, ap is_some is, ha, he, ap (λ (o : Option BufKind). fits (kind_of g at) (buf_len o)) is ∙ hf, ap (λ (o : Option BufKind). fits_cell (kind_of g e) (buf_cell o)) is, t)
 
-made_fits : (g : Context) (r : ℕ) (d : Dim) → fits (kind_of (with_reg g r false (kind.Below d)) (Reg r)) d ≡ true
+pub made_fits : (g : Context) (r : ℕ) (d : Dim) → fits (kind_of (with_reg g r false (kind.Below d)) (Reg r)) d ≡ true
 made_fits g r d = ap (λ (o : Option RegKind). fits (reg_kind o) d) (put_same g.regs r _) ∙ fits_itself d
 
-made_fine : (g : Context) (r : ℕ) (d : Dim) → fine (with_reg g r false (kind.Below d)) (Reg r) ≡ true
+pub made_fine : (g : Context) (r : ℕ) (d : Dim) → fine (with_reg g r false (kind.Below d)) (Reg r) ≡ true
 made_fine g r d = ap is_some (put_same g.regs r _)
 
 mark_typed : (g : Context) (top : Bool) (l : LevelTree) (q t : TermTree) (rest : Code) → MarkKinds g l → fine g q ≡ true → fine g t ≡ true → Typed g rest → Typed g (mark top l q t rest)
@@ -98,14 +100,18 @@ block_typed Single g l q x rest k hx hs hc hq t = mark_typed g l.is_top l q (Add
 block_typed AtPosition g l q x rest k hx hs hc hq t = cell_typed g l q rest k hc hq t
 block_typed AtRank g l q x rest k hx hs hc hq t = rank_typed g l x rest k hx hc t
 block_typed Counted g l q x rest k hx hs hc hq t = nodes_typed g l q End rest k hs hc hq tt t
+block_typed Marked g l q x rest k hx hs hc hq t = mark_typed g l.is_top l q (Add (Reg x) (Number 1)) rest k hq (both_true _ _ hx refl) t
+block_typed Kept g l q x rest k hx hs hc hq t = t
 
-below_fine : (r : Role) (g : Context) (l : LevelTree) (q : TermTree) (x : ℕ) → LevelKinds g r l x → fine g (Reg x) ≡ true → fine g l.size ≡ true → fine g l.coord ≡ true → fine g q ≡ true → fine g (below_of r l q x) ≡ true
+pub below_fine : (r : Role) (g : Context) (l : LevelTree) (q : TermTree) (x : ℕ) → LevelKinds g r l x → fine g (Reg x) ≡ true → fine g l.size ≡ true → fine g l.coord ≡ true → fine g q ≡ true → fine g (below_of r l q x) ≡ true
 below_fine Full g l q x k hx hs hc hq = under_fine g q l.size l.coord hq hs hc
 below_fine Shared g l q x k hx hs hc hq = ap is_some k.0.node
 below_fine Single g l q x k hx hs hc hq = hx
 below_fine AtPosition g l q x k hx hs hc hq = hq
 below_fine AtRank g l q x k hx hs hc hq = hq
 below_fine Counted g l q x k hx hs hc hq = ap is_some k.node
+below_fine Marked g l q x k hx hs hc hq = hx
+below_fine Kept g l q x k hx hs hc hq = hq
 
 abbrev pub AllKinds : Context → List LevelTree → ℕ → Type 0
 AllKinds g [] x = Unit {0}

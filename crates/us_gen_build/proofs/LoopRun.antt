@@ -49,7 +49,7 @@ entry_high None a = omega arith
 entry_high (Some p) a = omega arith
 
 -- the register of the turn
-turned_turn : (order : Option ℕ) (f : ℕ → ℤ) (a x e : ℕ) → turned order f a x e a ≡ pos x
+pub turned_turn : (order : Option ℕ) (f : ℕ → ℤ) (a x e : ℕ) → turned order f a x e a ≡ pos x
 turned_turn None f a x e = put_same f a _
 turned_turn (Some p) f a x e = put_other (put f a (pos x)) (a + 1) _ a (omega arith) ∙ put_same f a _
 
@@ -61,14 +61,14 @@ put_alike f g a v w r e h = case (cases_eq a r)
     case (inr q) = put_other f a v r q ∙ (h q ∙ sym (put_other g a w r q))
 
 -- what stands in the registers behind the entry of a turn
-record Picked (order : Option ℕ) (a n x e : ℕ) (f : ℕ → ℤ) (u v : State) : Type 0 where
+pub record Picked (order : Option ℕ) (a n x e : ℕ) (f : ℕ → ℤ) (u v : State) : Type 0 where
   pub regs : (r : ℕ) → r < entry_of order a + 1 → v.regs r ≡ turned order f a x e r
   pub out : (r : ℕ) → (a ≤ r → entry_of order a + 1 ≤ r) → v.regs r ≡ u.regs r
   pub entry : v.regs (entry_of order a) ≡ pos e
   pub bufs : v.bufs ≡ u.bufs
   pub steps : v.steps ≤ u.steps + 2
 
-picked_does : (env : Env) (order : Option ℕ) (a n low x : ℕ) (place : ℕ → ℕ) (f : ℕ → ℤ) (rest : Code) (u : State) (Q : State → Type 0) → x < n → Picks order low n u.bufs place → ((r : ℕ) → r < a → u.regs r ≡ f r)
+pub picked_does : (env : Env) (order : Option ℕ) (a n low x : ℕ) (place : ℕ → ℕ) (f : ℕ → ℤ) (rest : Code) (u : State) (Q : State → Type 0) → x < n → Picks order low n u.bufs place → ((r : ℕ) → r < a → u.regs r ≡ f r)
     → ((v : State) → Picked order a n x (place x) f u v → Does env rest v Q) → Does env (picked order a rest) (set_reg a (pos x) (tick 1 u)) Q
 picked_does env None a n low x place f rest u Q lt p same end = end (set_reg a (pos x) (tick 1 u)) record {
   regs = λ r h. put_alike u.regs f a (pos x) (pos x) r refl (λ ne. same r (omega (arith, h, ne)));

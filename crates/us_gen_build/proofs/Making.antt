@@ -14,18 +14,18 @@ use Rattle.us_gen.proofs.Going.{arrived, new_more}
 use Rattle.us_running.specs.Running.{Table}
 use Rattle.us_running.proofs.Running.{table_moved}
 use Rattle.us_gen_build.specs.declared.levels.Role.{Role}
-use Rattle.us_gen_build.specs.declared.levels.Role.TheVariants.{Full, Shared, Single, AtPosition, AtRank, Counted}
+use Rattle.us_gen_build.specs.declared.levels.Role.TheVariants.{Full, Shared, Single, AtPosition, AtRank, Counted, Marked, Kept}
 use Rattle.us_gen_build.specs.Levels.{LevelTree}
 use Rattle.us_gen_build.specs.Loops.{Zero, AllZero}
 use Rattle.us_gen_build.specs.Kinds.{NamesRise}
 use Rattle.us_gen_build.specs.Making.{words, makes_of, makes, SmallOf, AllSmall, Made, BuffersAreZero, SeesOf, AllSeen, MakesTyped}
 use Rattle.us_gen_build.proofs.BlockTyped.{rise_up}
 
-zeros : (m : ℕ) → Table (replicate m (pos 0)) m (λ y. pos 0)
+pub zeros : (m : ℕ) → Table (replicate m (pos 0)) m (λ y. pos 0)
 zeros m = record { long = length-replicate m (pos 0); each = λ y h. get_or-replicate m y (pos 0) (pos 0) h }
 
 -- more steps, and a lower number from which names may change
-looser_makes : (low high m n : ℕ) (ms : List Make) (w u : World) → low ≤ high → m ≤ n → Makes high m ms w u → Makes low n ms w u
+pub looser_makes : (low high m n : ℕ) (ms : List Make) (w u : World) → low ≤ high → m ≤ n → Makes high m ms w u → Makes low n ms w u
 looser_makes low high m n ms w u le few x = record {
   is = x.is;
   steps = omega (arith, x.steps, few);
@@ -40,6 +40,8 @@ own Single l w = made (words (l.first + 1) l.crd_length) (made (words l.first l.
 own AtPosition l w = made (words (l.first + 1) l.crd_length) w
 own AtRank l w = made (words (l.first + 1) l.crd_length) w
 own Counted l w = w
+own Marked l w = made (words l.first l.pos_length) w
+own Kept l w = w
 
 own_env : (r : Role) (l : LevelTree) (w : World) → (own r l w).env ≡ w.env
 own_env Full l w = refl
@@ -48,6 +50,8 @@ own_env Single l w = refl
 own_env AtPosition l w = refl
 own_env AtRank l w = refl
 own_env Counted l w = refl
+own_env Marked l w = refl
+own_env Kept l w = refl
 
 two_bufs : (l : LevelTree) (w : World) (b : ℕ) → l.first ≢ b → l.first + 1 ≢ b → (own Shared l w).bufs b ≡ w.bufs b
 two_bufs l w b p q = put_other (made (words l.first l.pos_length) w).bufs (l.first + 1) _ b q ∙ put_other w.bufs l.first _ b p
@@ -59,6 +63,8 @@ own_bufs Single l w b p q = two_bufs l w b p q
 own_bufs AtPosition l w b p q = put_other w.bufs (l.first + 1) _ b q
 own_bufs AtRank l w b p q = put_other w.bufs (l.first + 1) _ b q
 own_bufs Counted l w b p q = refl
+own_bufs Marked l w b p q = put_other w.bufs l.first _ b p
+own_bufs Kept l w b p q = refl
 
 two_zero : (l : LevelTree) (w u : World) → u.bufs l.first ≡ (own Shared l w).bufs l.first → u.bufs (l.first + 1) ≡ (own Shared l w).bufs (l.first + 1) → Zero w.env Shared l (begin u)
 two_zero l w u p q = (
@@ -73,6 +79,8 @@ own_zero Single l w u p q = two_zero l w u p q
 own_zero AtPosition l w u p q = table_moved _ _ _ _ (q ∙ put_same w.bufs (l.first + 1) _) (zeros _)
 own_zero AtRank l w u p q = table_moved _ _ _ _ (q ∙ put_same w.bufs (l.first + 1) _) (zeros _)
 own_zero Counted l w u p q = tt
+own_zero Marked l w u p q = table_moved _ _ _ _ (p ∙ put_same w.bufs l.first _) (zeros _)
+own_zero Kept l w u p q = tt
 
 two_makes : (lo cost : ℕ) (l : LevelTree) (ms : List Make) (w u : World) → lo ≤ l.first → SmallOf w.env Shared l → Makes lo cost ms (own Shared l w) u → Makes lo (cost + 2) (makes_of Shared l ms) w u
 two_makes lo cost l ms w u le s x =
@@ -91,6 +99,9 @@ own_makes Single lo cost l ms w u le s x = two_makes lo cost l ms w u le s x
 own_makes AtPosition lo cost l ms w u le s x = crd_makes lo cost l ms w u le s x
 own_makes AtRank lo cost l ms w u le s x = crd_makes lo cost l ms w u le s x
 own_makes Counted lo cost l ms w u le s x = looser_makes lo lo cost (cost + 2) ms w u (omega arith) (omega arith) x
+own_makes Marked lo cost l ms w u le s x =
+    looser_makes lo lo (cost + 1) (cost + 2) (makes_of Marked l ms) w u (omega arith) (omega arith) (new_more lo cost (words l.first l.pos_length) ms w u le s x)
+own_makes Kept lo cost l ms w u le s x = looser_makes lo lo cost (cost + 2) ms w u (omega arith) (omega arith) x
 
 makes_do : (ls : List LevelTree) (lo n : ℕ) (w : World) → NamesRise lo ls n → AllSmall w.env ls → (u : World) × Makes lo (2 * length ls) (makes ls) w u × Made lo n ls w u
 makes_do [] lo n w h s = (w, arrived lo w, record { env = refl; bufs = λ b k. refl; zero = tt })
@@ -115,7 +126,7 @@ buffers_are_zero lo n ls w h s = makes_do ls lo n w h s
 
 -- ---- typing
 
-sees_more : (g : Context) (m : Make) (d : Dim) → sees_dim g d ≡ true → sees_dim (with_buf g m) d ≡ true
+pub sees_more : (g : Context) (m : Make) (d : Dim) → sees_dim g d ≡ true → sees_dim (with_buf g m) d ≡ true
 sees_more g m (dim.Number n) h = refl
 sees_more g m (dim.Name d) h = h
 sees_more g m (dim.Len k) h = h
@@ -127,6 +138,8 @@ with_own Single l g = with_buf (with_buf g (words l.first l.pos_length)) (words 
 with_own AtPosition l g = with_buf g (words (l.first + 1) l.crd_length)
 with_own AtRank l g = with_buf g (words (l.first + 1) l.crd_length)
 with_own Counted l g = g
+with_own Marked l g = with_buf g (words l.first l.pos_length)
+with_own Kept l g = g
 
 two_sees : (l : LevelTree) (g : Context) (d : Dim) → sees_dim g d ≡ true → sees_dim (with_own Shared l g) d ≡ true
 two_sees l g d h = sees_more (with_buf g (words l.first l.pos_length)) (words (l.first + 1) l.crd_length) d (sees_more g (words l.first l.pos_length) d h)
@@ -138,6 +151,8 @@ own_sees Single l g d h = two_sees l g d h
 own_sees AtPosition l g d h = sees_more g (words (l.first + 1) l.crd_length) d h
 own_sees AtRank l g d h = sees_more g (words (l.first + 1) l.crd_length) d h
 own_sees Counted l g d h = h
+own_sees Marked l g d h = sees_more g (words l.first l.pos_length) d h
+own_sees Kept l g d h = h
 
 two_none : (l : LevelTree) (g : Context) (b : ℕ) → l.first + 4 ≤ b → g.bufs b ≡ None → (with_own Shared l g).bufs b ≡ None
 two_none l g b le h = put_other (with_buf g (words l.first l.pos_length)).bufs (l.first + 1) _ b (λ e. omega (arith, e, le)) ∙ (put_other g.bufs l.first _ b (λ e. omega (arith, e, le)) ∙ h)
@@ -149,6 +164,8 @@ own_none Single l g b le h = two_none l g b le h
 own_none AtPosition l g b le h = put_other g.bufs (l.first + 1) _ b (λ e. omega (arith, e, le)) ∙ h
 own_none AtRank l g b le h = put_other g.bufs (l.first + 1) _ b (λ e. omega (arith, e, le)) ∙ h
 own_none Counted l g b le h = h
+own_none Marked l g b le h = put_other g.bufs l.first _ b (λ e. omega (arith, e, le)) ∙ h
+own_none Kept l g b le h = h
 
 two_typed : (l : LevelTree) (g h : Context) (ms : List Make) → ((d : Dim) → sees_dim g d ≡ true → sees_dim h d ≡ true) → h.bufs l.first ≡ None → h.bufs (l.first + 1) ≡ None → SeesOf g Shared l → TypedMakes (with_own Shared l h) ms → TypedMakes h (makes_of Shared l ms)
 two_typed l g h ms sees p q s t =
@@ -161,6 +178,8 @@ own_typed Single l g h ms sees p q s t = two_typed l g h ms sees p q s t
 own_typed AtPosition l g h ms sees p q s t = (q, sees l.crd_length s, refl, refl, t)
 own_typed AtRank l g h ms sees p q s t = (q, sees l.crd_length s, refl, refl, t)
 own_typed Counted l g h ms sees p q s t = t
+own_typed Marked l g h ms sees p q s t = (p, sees l.pos_length s, refl, refl, t)
+own_typed Kept l g h ms sees p q s t = t
 
 all_typed : (ls : List LevelTree) (lo n : ℕ) (g h : Context) → NamesRise lo ls n → ((d : Dim) → sees_dim g d ≡ true → sees_dim h d ≡ true) → ((b : ℕ) → lo ≤ b → h.bufs b ≡ None) → AllSeen g ls → TypedMakes h (makes ls)
 all_typed [] lo n g h rise sees none s = tt

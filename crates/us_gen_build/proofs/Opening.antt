@@ -7,7 +7,7 @@ use Rattle.us_code.specs.Plain.{Code}
 use Rattle.us_code.specs.Run.{State, exec, tick, set_reg}
 use Rattle.us_code_laws.proofs.Sequence.{put_same, put_other}
 use Rattle.us_gen_build.specs.declared.levels.Role.{Role}
-use Rattle.us_gen_build.specs.declared.levels.Role.TheVariants.{Full, Shared, Single, AtPosition, AtRank, Counted}
+use Rattle.us_gen_build.specs.declared.levels.Role.TheVariants.{Full, Shared, Single, AtPosition, AtRank, Counted, Marked, Kept}
 use Rattle.us_gen_build.specs.Levels.{LevelTree, open_of, opens}
 use Rattle.us_gen_build.specs.Turns.{Turns, IsSameOutside, names_end, LevelAfter, AllNeed, inside}
 use Rattle.us_gen_build.specs.Loops.{Zero, AllZero, Opened, LevelsOpen}
@@ -43,6 +43,8 @@ module _ (T : Turns) where
   level_opens : (r : Role) (l : LevelTree) (at : ℕ → ℕ) (rest : Code) (s : State) → Zero T.env r l s → (u : State) × (exec T.env (open_of r l rest) s ≡ exec T.env rest u) × Opens r l at s u
   level_opens Full l at rest s z = (s, refl, record { after = tt; same = record { regs = λ r h. refl; bufs = λ b h. refl }; bufs = refl; steps = omega arith; stuck = refl })
   level_opens Single l at rest s z = (s, refl, record { after = record { marks = z.0; cells = z.1 }; same = record { regs = λ r h. refl; bufs = λ b h. refl }; bufs = refl; steps = omega arith; stuck = refl })
+  level_opens Marked l at rest s z = (s, refl, record { after = record { marks = z }; same = record { regs = λ r h. refl; bufs = λ b h. refl }; bufs = refl; steps = omega arith; stuck = refl })
+  level_opens Kept l at rest s z = (s, refl, record { after = tt; same = record { regs = λ r h. refl; bufs = λ b h. refl }; bufs = refl; steps = omega arith; stuck = refl })
   level_opens AtPosition l at rest s z = (s, refl, record { after = record { cells = z }; same = record { regs = λ r h. refl; bufs = λ b h. refl }; bufs = refl; steps = omega arith; stuck = refl })
   level_opens AtRank l at rest s z = (s, refl, record { after = record { cells = z }; same = record { regs = λ r h. refl; bufs = λ b h. refl }; bufs = refl; steps = omega arith; stuck = refl })
   level_opens Shared l at rest s z = (vars l s, refl, record { after = record { last = last_is l s; node = node_is l s; marks = z.0; cells = z.1 }; same = vars_same l s; bufs = refl; steps = omega arith; stuck = refl })
@@ -58,6 +60,8 @@ module _ (T : Turns) where
       moved Single z = z
       moved AtPosition z = z
       moved AtRank z = z
+      moved Marked z = z
+      moved Kept z = z
 
   zeros_stay : (ls : List LevelTree) (s u : State) → u.bufs ≡ s.bufs → AllZero T.env ls s → AllZero T.env ls u
   zeros_stay [] s u e z = tt

@@ -9,7 +9,7 @@ use Rattle.us_gen.specs.Levels.{size_term}
 use Rattle.us_running.specs.Running.{is_new, below, Table}
 use Rattle.us_running.specs.Laws.{DoNotFall}
 use Rattle.us_gen_build.specs.declared.levels.Role.{Role}
-use Rattle.us_gen_build.specs.declared.levels.Role.TheVariants.{Full, Shared, Single, AtPosition, AtRank, Counted}
+use Rattle.us_gen_build.specs.declared.levels.Role.TheVariants.{Full, Shared, Single, AtPosition, AtRank, Counted, Marked, Kept}
 use Rattle.us_gen_build.specs.Levels.{LevelTree, opens}
 use Rattle.us_gen_build.specs.Turns.{Turns, names_end, keys, shared_cells, cells_at, Counts, inside, costs}
 use Rattle.us_gen_build.specs.Loops.{entry_loop, fill_up, at_top, LoopNeeds, AllZero}
@@ -26,6 +26,8 @@ close_of Single l n rest = close_pos l.is_top l n rest
 close_of AtPosition l n rest = rest
 close_of AtRank l n rest = rest
 close_of Counted l n rest = rest
+close_of Marked l n rest = close_pos l.is_top l n rest
+close_of Kept l n rest = rest
 
 abbrev pub closes : List LevelTree → ℕ → Code
 closes [] n = End
@@ -44,6 +46,8 @@ module _ (T : Turns) where
   begins AtPosition l at x = false
   begins AtRank l at x = false
   begins Counted l at x = false
+  begins Marked l at x = true
+  begins Kept l at x = false
 
   -- cell p of `pos`: how many nodes have a position below p above them
   abbrev pub pos_cell : Bool → LevelTree → (ℕ → Bool) → (ℕ → ℕ) → ℕ → ℤ
@@ -64,6 +68,8 @@ module _ (T : Turns) where
   LevelBuilt AtPosition l at u = HasCrd l (cells_at T l at T.count) u
   LevelBuilt AtRank l at u = HasCrd l (cells_at T l (λ y. y) T.count) u
   LevelBuilt Counted l at u = Counts T l at T.count u
+  LevelBuilt Marked l at u = HasPos Marked l at u
+  LevelBuilt Kept l at u = Unit {0}
 
   abbrev pub AllBuilt : List LevelTree → (ℕ → ℕ) → State → Type 0
   AllBuilt [] at u = Unit {0}
@@ -81,6 +87,8 @@ module _ (T : Turns) where
   CloseNeeds AtPosition l at = Unit {0}
   CloseNeeds AtRank l at = Unit {0}
   CloseNeeds Counted l at = Unit {0}
+  CloseNeeds Marked l at = PosNeeds l at
+  CloseNeeds Kept l at = Unit {0}
 
   abbrev pub AllClose : List LevelTree → (ℕ → ℕ) → Type 0
   AllClose [] at = Unit {0}
@@ -97,6 +105,8 @@ module _ (T : Turns) where
   close_cost AtPosition l = 0
   close_cost AtRank l = 0
   close_cost Counted l = 0
+  close_cost Marked l = pos_cost l.is_top l
+  close_cost Kept l = 0
 
   abbrev pub close_costs : List LevelTree → ℕ
   close_costs [] = 0

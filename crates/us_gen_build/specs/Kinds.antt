@@ -7,7 +7,7 @@ use Rattle.us_code.specs.Run.{put}
 use Rattle.us_code.specs.Typing.{Context, RegKind, BufKind, is_some, buf_len, buf_cell, fits, fine, sees_dim, Typed}
 use Rattle.us_gen.specs.Rooms.{FreshFrom}
 use Rattle.us_gen_build.specs.declared.levels.Role.{Role}
-use Rattle.us_gen_build.specs.declared.levels.Role.TheVariants.{Full, Shared, Single, AtPosition, AtRank, Counted}
+use Rattle.us_gen_build.specs.declared.levels.Role.TheVariants.{Full, Shared, Single, AtPosition, AtRank, Counted, Marked, Kept}
 use Rattle.us_gen_build.specs.Levels.{LevelTree}
 use Rattle.us_gen_build.specs.Loops.{entry_of, levels_from}
 use Rattle.us_gen_build.specs.Blocks.{build_block}
@@ -36,6 +36,8 @@ open_kind Single l f = f
 open_kind AtPosition l f = f
 open_kind AtRank l f = f
 open_kind Counted l f = node_kinds l f
+open_kind Marked l f = f
+open_kind Kept l f = f
 
 abbrev pub open_kinds : List LevelTree → (ℕ → Option RegKind) → ℕ → Option RegKind
 open_kinds [] f = f
@@ -82,6 +84,8 @@ LevelFits g d Single l = PosFits g l × CrdFits g l × (fits (kind.Below d) l.cr
 LevelFits g d AtPosition l = CrdFits g l
 LevelFits g d AtRank l = CrdFits g l × (fits (kind.Below d) l.crd_length ≡ true)
 LevelFits g d Counted l = Unit {0}
+LevelFits g d Marked l = PosFits g l × (sees_dim g l.crd_length ≡ true)
+LevelFits g d Kept l = Unit {0}
 
 -- the terms of the levels are fine where the registers of a turn are visible
 abbrev pub AllFit : Context → Context → Dim → List LevelTree → Type 0

@@ -5,7 +5,7 @@ use Rattle.us_code.specs.declared.program.Buf.TheVariants as buf
 use Rattle.us_code.specs.Plain.{TermTree, Number, Reg, Add, Sub, Mul, Code, End, Load, Var, Put, Set, For, If, When, term_tree}
 use Rattle.us_gen.specs.Nest.{is_origin}
 use Rattle.us_gen_build.specs.declared.levels.Role.{Role}
-use Rattle.us_gen_build.specs.declared.levels.Role.TheVariants.{Full, Shared, Single, AtPosition, AtRank, Counted}
+use Rattle.us_gen_build.specs.declared.levels.Role.TheVariants.{Full, Shared, Single, AtPosition, AtRank, Counted, Marked, Kept}
 use Rattle.us_gen_build.specs.declared.levels.BuildLevel.{BuildLevel}
 
 -- a level and its names: the registers `first` to `first + 3`, and the buffers `first` (pos) and `first + 1` (crd)
@@ -71,6 +71,8 @@ block_of Single l q x rest = mark l.is_top l q (one_more x) (Set (buf.New (l.fir
 block_of AtPosition l q x rest = cell_at l q rest
 block_of AtRank l q x rest = Set (buf.New (l.first + 1)) (Reg x) l.coord rest
 block_of Counted l q x rest = if_new l q (new_node l q End) rest
+block_of Marked l q x rest = mark l.is_top l q (one_more x) rest
+block_of Kept l q x rest = rest
 
 -- the position here
 abbrev pub below_of : Role → LevelTree → TermTree → ℕ → TermTree
@@ -80,6 +82,8 @@ below_of Single l q x = Reg x
 below_of AtPosition l q x = q
 below_of AtRank l q x = q
 below_of Counted l q x = Reg (l.first + 1)
+below_of Marked l q x = Reg x
+below_of Kept l q x = q
 
 -- the levels, one inside the other
 abbrev pub levels : List LevelTree → TermTree → ℕ → Code
@@ -100,6 +104,8 @@ open_of Single l rest = rest
 open_of AtPosition l rest = rest
 open_of AtRank l rest = rest
 open_of Counted l rest = no_node l rest
+open_of Marked l rest = rest
+open_of Kept l rest = rest
 
 abbrev pub opens : List LevelTree → Code → Code
 opens [] rest = rest

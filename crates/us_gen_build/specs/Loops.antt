@@ -7,7 +7,7 @@ use Rattle.us_code.specs.Run.{Env, State, put, exec, size_of}
 use Rattle.us_code_laws.specs.Does.{Does}
 use Rattle.us_running.specs.Running.{top, Table}
 use Rattle.us_gen_build.specs.declared.levels.Role.{Role}
-use Rattle.us_gen_build.specs.declared.levels.Role.TheVariants.{Full, Shared, Single, AtPosition, AtRank, Counted}
+use Rattle.us_gen_build.specs.declared.levels.Role.TheVariants.{Full, Shared, Single, AtPosition, AtRank, Counted, Marked, Kept}
 use Rattle.us_gen_build.specs.Levels.{LevelTree, levels, opens}
 use Rattle.us_gen_build.specs.Turns.{Turns, IsSameOutside, names_end, LevelsAfter, AllNeed, costs}
 
@@ -32,6 +32,10 @@ levels_from order cols a = entry_of order a + 1 + length cols
 -- a turn of the loop over d entries: the cells of the columns at the entry, and then the levels
 abbrev pub turn_body : Option ℕ → List ℕ → List LevelTree → ℕ → Code
 turn_body order cols ls a = picked order a (loads cols (entry_of order a + 1) (entry_of order a) (levels ls (Number 0) a))
+
+-- a loop over d entries that loads the cells of the columns at each entry, and goes on with a block
+abbrev pub turns_over : Dim → Option ℕ → List ℕ → ℕ → Code → Code
+turns_over d order cols a inner = For a d (picked order a (loads cols (entry_of order a + 1) (entry_of order a) inner)) End
 
 abbrev pub entry_loop : Dim → Option ℕ → List ℕ → List LevelTree → ℕ → Code
 entry_loop d order cols ls a = For a d (turn_body order cols ls a) End
@@ -114,6 +118,8 @@ module _ (env : Env) where
   Zero AtPosition l u = ZeroCells l u
   Zero AtRank l u = ZeroCells l u
   Zero Counted l u = Unit {0}
+  Zero Marked l u = ZeroMarks l u
+  Zero Kept l u = Unit {0}
 
   abbrev pub AllZero : List LevelTree → State → Type 0
   AllZero [] u = Unit {0}

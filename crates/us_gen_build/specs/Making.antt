@@ -8,7 +8,7 @@ use Rattle.us_code.specs.Runs.{World, begin}
 use Rattle.us_code.specs.Typing.{Context, sees_dim, TypedMakes, with_bufs}
 use Rattle.us_gen.specs.Goes.{Makes}
 use Rattle.us_gen_build.specs.declared.levels.Role.{Role}
-use Rattle.us_gen_build.specs.declared.levels.Role.TheVariants.{Full, Shared, Single, AtPosition, AtRank, Counted}
+use Rattle.us_gen_build.specs.declared.levels.Role.TheVariants.{Full, Shared, Single, AtPosition, AtRank, Counted, Marked, Kept}
 use Rattle.us_gen_build.specs.Levels.{LevelTree}
 use Rattle.us_gen_build.specs.Loops.{AllZero}
 use Rattle.us_gen_build.specs.Kinds.{words_of, NamesRise}
@@ -25,6 +25,8 @@ makes_of Single l rest = words l.first l.pos_length ∷ words (l.first + 1) l.cr
 makes_of AtPosition l rest = words (l.first + 1) l.crd_length ∷ rest
 makes_of AtRank l rest = words (l.first + 1) l.crd_length ∷ rest
 makes_of Counted l rest = rest
+makes_of Marked l rest = words l.first l.pos_length ∷ rest
+makes_of Kept l rest = rest
 
 abbrev pub makes : List LevelTree → List Make
 makes [] = []
@@ -38,6 +40,8 @@ SmallOf env Single l = (size_of env l.pos_length ≤ 67108865) × (size_of env l
 SmallOf env AtPosition l = size_of env l.crd_length ≤ 67108865
 SmallOf env AtRank l = size_of env l.crd_length ≤ 67108865
 SmallOf env Counted l = Unit {0}
+SmallOf env Marked l = size_of env l.pos_length ≤ 67108865
+SmallOf env Kept l = Unit {0}
 
 abbrev pub AllSmall : Env → List LevelTree → Type 0
 AllSmall env [] = Unit {0}
@@ -63,6 +67,8 @@ SeesOf g Single l = (sees_dim g l.pos_length ≡ true) × (sees_dim g l.crd_leng
 SeesOf g AtPosition l = sees_dim g l.crd_length ≡ true
 SeesOf g AtRank l = sees_dim g l.crd_length ≡ true
 SeesOf g Counted l = Unit {0}
+SeesOf g Marked l = sees_dim g l.pos_length ≡ true
+SeesOf g Kept l = Unit {0}
 
 abbrev pub AllSeen : Context → List LevelTree → Type 0
 AllSeen g [] = Unit {0}

@@ -6,7 +6,7 @@ use Rattle.us_code.specs.Run.{Env, State, size_of, value}
 use Rattle.us_code_laws.specs.Does.{Does}
 use Rattle.us_running.specs.Running.{is_new, seen, before, less_one, written, Table}
 use Rattle.us_gen_build.specs.declared.levels.Role.{Role}
-use Rattle.us_gen_build.specs.declared.levels.Role.TheVariants.{Full, Shared, Single, AtPosition, AtRank, Counted}
+use Rattle.us_gen_build.specs.declared.levels.Role.TheVariants.{Full, Shared, Single, AtPosition, AtRank, Counted, Marked, Kept}
 use Rattle.us_gen_build.specs.Levels.{LevelTree, levels}
 
 -- the entries in the order of the turns: the registers below `base` at each turn, and the size and the coordinates of each level
@@ -27,6 +27,8 @@ position_of Single w at c x = x
 position_of AtPosition w at c x = at x
 position_of AtRank w at c x = at x
 position_of Counted w at c x = seen (λ y. at y * w + c y) (suc x) - 1
+position_of Marked w at c x = x
+position_of Kept w at c x = at x
 
 -- a level marks `pos`, writes `crd`, compares coordinates, or takes the position above as the rank
 abbrev pub marks_pos : Role → Bool → Bool
@@ -36,6 +38,8 @@ marks_pos Single top = not top
 marks_pos AtPosition top = false
 marks_pos AtRank top = false
 marks_pos Counted top = false
+marks_pos Marked top = not top
+marks_pos Kept top = false
 
 abbrev pub writes_crd : Role → Bool
 writes_crd Full = false
@@ -44,6 +48,8 @@ writes_crd Single = true
 writes_crd AtPosition = true
 writes_crd AtRank = true
 writes_crd Counted = false
+writes_crd Marked = false
+writes_crd Kept = false
 
 abbrev pub has_key : Role → Bool
 has_key Full = true
@@ -52,6 +58,8 @@ has_key Single = false
 has_key AtPosition = false
 has_key AtRank = false
 has_key Counted = true
+has_key Marked = false
+has_key Kept = false
 
 abbrev pub is_at_rank : Role → Bool
 is_at_rank Full = false
@@ -60,6 +68,8 @@ is_at_rank Single = false
 is_at_rank AtPosition = false
 is_at_rank AtRank = true
 is_at_rank Counted = false
+is_at_rank Marked = false
+is_at_rank Kept = false
 
 -- the term reads registers below b alone
 abbrev pub Reads : ℕ → TermTree → Type 0
@@ -127,6 +137,9 @@ module _ (T : Turns) where
     pub marks : Table (u.bufs l.first) (size_of T.env l.pos_length) (single_marks l at x)
     pub cells : Table (u.bufs (l.first + 1)) (size_of T.env l.crd_length) (cells_at l (λ y. y) x)
 
+  pub record Marks (l : LevelTree) (at : ℕ → ℕ) (x : ℕ) (u : State) : Type 0 where
+    pub marks : Table (u.bufs l.first) (size_of T.env l.pos_length) (single_marks l at x)
+
   pub record Spreads (l : LevelTree) (place : ℕ → ℕ) (x : ℕ) (u : State) : Type 0 where
     pub cells : Table (u.bufs (l.first + 1)) (size_of T.env l.crd_length) (cells_at l place x)
 
@@ -138,6 +151,8 @@ module _ (T : Turns) where
   LevelAfter AtPosition l at x u = Spreads l at x u
   LevelAfter AtRank l at x u = Spreads l (λ y. y) x u
   LevelAfter Counted l at x u = Counts l at x u
+  LevelAfter Marked l at x u = Marks l at x u
+  LevelAfter Kept l at x u = Unit {0}
 
   -- the steps for the first x entries
   abbrev pub cost : Role → LevelTree → (ℕ → ℕ) → ℕ → ℕ
@@ -147,6 +162,8 @@ module _ (T : Turns) where
   cost AtPosition l at x = 2 * x
   cost AtRank l at x = x
   cost Counted l at x = x + 2 * seen (keys l at) x
+  cost Marked l at x = 2 * x
+  cost Kept l at x = 0
 
   -- the positions of the entries at a level
   abbrev pub inside : LevelTree → (ℕ → ℕ) → ℕ → ℕ

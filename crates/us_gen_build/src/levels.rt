@@ -26,6 +26,10 @@ pub enum Role {
     AtRank,
     /// Entries in a row with equal coordinates up to here share a node. Nothing is written.
     Counted,
+    /// Each entry has a node, whose number is the entry's rank. `pos` is written, and a pack has the coordinates.
+    Marked,
+    /// The positions are those above. Nothing is written, and a pack has the coordinates.
+    Kept,
 }
 
 /// A level in the loop over the entries.
@@ -85,8 +89,8 @@ impl BuildLevel {
         }
     }
 
-    /// The term of the position here, under a position. The turn is in register `turn`.
-    fn below(&self, alloc: Global, position: &Term, turn: u32) -> Result<Term, AllocError>
+    /// The term of the position here, under a position. The turn is in register `turn`. It fails only for want of memory.
+    pub fn below(&self, alloc: Global, position: &Term, turn: u32) -> Result<Term, AllocError>
         requires { self.now.first + 4 < 2 ^ 32 }
         ensures { IfOk result (λ t. term_tree t ≡ parts.below_of self.now.role (level_tree self.now) (term_tree position.now) turn) }
     {
@@ -97,6 +101,8 @@ impl BuildLevel {
             Role::AtPosition => position.copy(alloc),
             Role::AtRank => position.copy(alloc),
             Role::Counted => Ok(Term::Reg(self.first + 1)),
+            Role::Marked => Ok(Term::Reg(turn)),
+            Role::Kept => position.copy(alloc),
         }
     }
 
@@ -207,6 +213,8 @@ impl BuildLevel {
             Role::AtPosition => Ok(inner),
             Role::AtRank => Ok(inner),
             Role::Counted => self.no_node(alloc, inner),
+            Role::Marked => Ok(inner),
+            Role::Kept => Ok(inner),
         }
     }
 
@@ -225,6 +233,8 @@ impl BuildLevel {
                 let made = self.new_node(alloc, position)?;
                 self.if_new(alloc, position, made)
             }
+            Role::Marked => self.mark(alloc, position, turn),
+            Role::Kept => Ok(Block::new(alloc)),
         }
     }
 }

@@ -14,6 +14,6 @@ pub use laws::{
     levels_take_entries, loops_take_entries, makes_typed, orders_sort,
 };
 pub use levels::{BuildLevel, Role, each_level, open_levels};
-pub use loops::{build_block, entry_loop, fill_up};
+pub use loops::{build_block, close_levels, entry_loop, fill_up, turns_over};
 pub use makes::new_buffers;
 pub use orders::order_block;

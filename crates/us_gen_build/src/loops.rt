@@ -73,6 +73,26 @@ fn load_columns(
 }
 
 /// The loop over `count` entries, in the order of a buffer of places or in their own: each turn loads the cells of the
+/// columns, and goes on with a block. Registers from `turn` on are the loop's own, one for the turn, one for the place if
+/// there is an order, and one for each column. It fails only for want of memory.
+pub fn turns_over(
+    alloc: Global,
+    count: Dim,
+    order: Option<u32>,
+    columns: &[u32],
+    turn: u32,
+    inner: Block,
+) -> Result<Block, AllocError>
+    requires { turn + length columns.now + 3 < 2 ^ 32 }
+    ensures { IfOk result (λ b. tree_of b ≡ loops.turns_over count order columns.now turn (tree_of inner)) }
+{
+    let entry = entry_of(order, turn);
+    let loaded = load_columns(alloc, columns, entry + 1, entry, inner)?;
+    let body = pick(alloc, order, turn, loaded)?;
+    Block::of(alloc, for_below(turn, count, body))
+}
+
+/// The loop over `count` entries, in the order of a buffer of places or in their own: each turn loads the cells of the
 /// columns, and goes through the levels. Registers from `turn` on are the loop's own, one for the turn, one for the
 /// place if there is an order, and one for each column. It fails only for want of memory.
 pub fn entry_loop(
@@ -87,11 +107,8 @@ pub fn entry_loop(
     requires names { HaveNames levels.now }
     ensures { IfOk result (λ b. tree_of b ≡ loops.entry_loop count order columns.now (level_trees levels.now) turn) }
 {
-    let entry = entry_of(order, turn);
     let inner = each_level(alloc, levels, &Term::Number(0), turn)?;
-    let loaded = load_columns(alloc, columns, entry + 1, entry, inner)?;
-    let body = pick(alloc, order, turn, loaded)?;
-    Block::of(alloc, for_below(turn, count, body))
+    turns_over(alloc, count, order, columns, turn, inner)
 }
 
 /// Makes each cell of a buffer the greatest of those up to it. Registers `next` to `next + 2` are its own. It fails only
@@ -151,11 +168,13 @@ fn close_level(
         Role::AtPosition => Ok(rest),
         Role::AtRank => Ok(rest),
         Role::Counted => Ok(rest),
+        Role::Marked => close_pos(alloc, level, next, rest),
+        Role::Kept => Ok(rest),
     }
 }
 
-/// What stands behind the loop for each level.
-fn close_levels(alloc: Global, levels: &[BuildLevel], next: u32) -> Result<Block, AllocError>
+/// What stands behind the loop for each level. It fails only for want of memory.
+pub fn close_levels(alloc: Global, levels: &[BuildLevel], next: u32) -> Result<Block, AllocError>
     requires { next + 3 * length levels.now + 3 < 2 ^ 32 }
     ensures { IfOk result (λ b. tree_of b ≡ blocks.closes (level_trees levels.now) next) }
 {

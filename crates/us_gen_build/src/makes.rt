@@ -33,6 +33,8 @@ fn level_buffers(alloc: Global, level: &BuildLevel) -> Result<Makes, AllocError>
         Role::AtPosition => Makes::from_slice(alloc, &[crd]),
         Role::AtRank => Makes::from_slice(alloc, &[crd]),
         Role::Counted => Ok(Makes::new(alloc)),
+        Role::Marked => Makes::from_slice(alloc, &[pos]),
+        Role::Kept => Ok(Makes::new(alloc)),
     }
 }
 

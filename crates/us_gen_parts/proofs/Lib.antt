@@ -1,1 +1,15 @@
 pub mod Orderly
+pub mod OwnPieces
+pub mod PackColumns
+pub mod ColumnPlaces
+pub mod LevelPlaces
+pub mod Placed
+pub mod PartThere
+pub mod PartsPassed
+pub mod EntriesFew
+pub mod SmallParts
+pub mod Listable
+pub mod NamesThere
+pub mod Visible
+pub mod PlanFew
+pub mod RoomFew

@@ -1,5 +1,5 @@
 -- The parts of an accepted declaration are orderly.
-use Rattle.std.proofs.Common.{◌≡◌, ℕ, zero, suc, ◌+◌, ◌<◌, ◌≤◌, List, [], ◌∷◌, ◌++◌, length, get_or, take, Bool, true, false, cond, not, eqb, ◌||◌, Option, Some, None, refl, sym, ap, subst, ◌∙◌, inl, inr, zero-add, append_assoc, arith, All}
+use Rattle.std.proofs.Common.{◌≡◌, ℕ, zero, suc, ◌<◌, List, [], ◌∷◌, ◌++◌, length, get_or, take, Bool, true, false, cond, not, eqb, ◌||◌, Some, None, refl, sym, ap, ◌∙◌, zero-add, append_assoc, arith, All}
 use Rattle.std.specs.List.{list_any, range_with_len}
 use Rattle.std.proofs.lemmas.Bool.Decides.{nat_tests}
 use Rattle.std.proofs.lemmas.List.{append-nil}
@@ -11,14 +11,13 @@ use Rattle.us_format.specs.Kinds.{is_loose}
 use Rattle.us_format.proofs.Lookup.{eqb-false_sym, not-true, or-false}
 use Rattle.us_decl.specs.Declares.{Declared, IsValid}
 use Rattle.us_judge.specs.Acceptance.{bad_count, bad_order, bad_whole, counting_variables, first_failing, first_level, first_refusal, is_variable, stays_loose, uses_none}
-use Rattle.us_judge.specs.Format.{part_at}
 use Rattle.us_judge.specs.Views.{declaration_of}
 use Rattle.us_judge.proofs.Accepted.{KeepsRules, accepted-keeps, all-pass, each-used, passed}
 use Rattle.us_judge.proofs.LawfulDeclarations.{accepted-lawful, accepted-packs}
 use Rattle.us_judge.proofs.Looseness.{take-range}
-use Rattle.us_judge.proofs.SomePart.{short-part}
-use Rattle.us_gen_places.specs.Places.{by_query, counting_query}
-use Rattle.us_gen_places.specs.Holds.{IsWhole}
+use Rattle.us_judge.proofs.Valid.{queries-valid}
+use Rattle.us_gen_places.specs.Places.{counting_query}
+use Rattle.us_gen_places.specs.Holds.{IsOrderly, IsWhole}
 use Rattle.us_gen_parts.specs.Orderly.{AcceptedIsOrderly}
 
 -- ---- variables
@@ -96,16 +95,20 @@ module _ (p : Part) (kept : KeepsRules p) where
       (ap (is_loose p) (get_or-range_with_len 0 (suc k) k 0 (omega arith) ∙ zero-add k) ∙ loose) in
       sym (ap (λ (b : Bool). not b || is_loose p (suc k)) some) ∙ e
 
-pub accepted-orderly : AcceptedIsOrderly
-accepted-orderly d valid kept k below =
-    let p : Part = part_at (declaration_of d) k in
-    let keeps : KeepsRules p = accepted-keeps (declaration_of d) kept k _ below in
+-- all parts of an accepted declaration
+pub all-orderly : (d : Declared) → IsValid d → first_refusal (declaration_of d) ≡ None → All IsOrderly (declaration_of d).parts
+all-orderly d valid kept k e below =
+    let p : Part = get_or (declaration_of d).parts k e in
+    let keeps : KeepsRules p = accepted-keeps (declaration_of d) kept k e below in
     let wholes : All (λ e. (is_variable e || uses_none (counting_variables p.queries) e) ≡ true) p.levels =
     all-pass (λ e. is_variable e || uses_none (counting_variables p.queries) e) [] (first_level p) p.levels (let w : bad_whole p ≡ None = keeps 5 (1, bad_count) (omega arith) in w) in
     record {
-      lawful = accepted-lawful d valid kept k _ below;
-      packs = accepted-packs d kept k _ below;
+      lawful = accepted-lawful d valid kept k e below;
+      packs = accepted-packs d kept k e below;
       loose = next_loose p keeps;
       whole = λ i e l. whole p.queries (get_or p.levels i e) (wholes i e l);
-      few = (short-part d k valid below).queries;
+      few = queries-valid d valid k e below;
     }
+
+pub accepted-orderly : AcceptedIsOrderly
+accepted-orderly d valid kept k below = all-orderly d valid kept k _ below

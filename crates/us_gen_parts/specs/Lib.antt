@@ -1,1 +1,3 @@
 pub mod Orderly
+pub mod Own
+pub mod Walks

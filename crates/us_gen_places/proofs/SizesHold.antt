@@ -156,7 +156,7 @@ some_none {a} h = absurd cc
 some_same : {a b : ℕ} → Some a ≡ Some b → a ≡ b
 some_same {a} {b} h = cc
 
-counted : (s : Shape) (m : List Entry) (qs : List Query) (k v q : ℕ) → counting_query k qs v ≡ Some q → IsCounted s m qs k v q
+pub counted : (s : Shape) (m : List Entry) (qs : List Query) (k v q : ℕ) → counting_query k qs v ≡ Some q → IsCounted s m qs k v q
 counted s m [] k v q h = absurd cc
 counted s m (SumOf w e ∷ qs) k v q h = later s m (SumOf w e) qs k v q refl (counted s m qs (suc k) v q h)
 counted s m (Enumerate w e ∷ qs) k v q h = go (eqb w v) refl h (counted s m qs (suc k) v q)

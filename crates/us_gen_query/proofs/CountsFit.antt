@@ -1,5 +1,5 @@
 -- The loops that count are typed.
-use Rattle.std.proofs.Common.{◌≡◌, ◌≢◌, ℕ, zero, suc, ◌+◌, ◌<◌, ◌≤◌, Bool, true, false, cond, eqb, not, ◌&&◌, nat_eq, nat_lt, refl, sym, ap, ap₂, ◌∙◌, subst, arith, List, [], ◌∷◌, length, Option, Some, None}
+use Rattle.std.proofs.Common.{◌≡◌, ◌≢◌, ℕ, ◌+◌, ◌<◌, Bool, true, false, cond, eqb, not, ◌&&◌, nat_eq, refl, ap, ap₂, ◌∙◌, arith, List, [], ◌∷◌, Option, Some, None}
 use Rattle.std.proofs.lemmas.Bool.Decides.{nat_tests}
 use Rattle.us_code.specs.declared.program.Dim.{Dim}
 use Rattle.us_code.specs.declared.program.Dim.TheVariants as dim
@@ -9,12 +9,12 @@ use Rattle.us_code.specs.declared.program.CellKind.{CellKind}
 use Rattle.us_code.specs.declared.program.CellKind.TheVariants as kind
 use Rattle.us_code.specs.declared.pieces.Columns.{Columns}
 use Rattle.us_code.specs.Plain.{Number, Reg, Code, End, Set, When}
-use Rattle.us_code.specs.Typing.{Context, RegKind, BufKind, is_some, is_put, reg_kind, buf_len, buf_cell, with_reg, fits, fits_cell, kind_of, fine, same_dim, same_buf, sees_bufs, are_keys, is_below, Typed}
+use Rattle.us_code.specs.Typing.{Context, RegKind, BufKind, is_some, is_put, reg_kind, buf_len, buf_cell, with_reg, fits, fits_cell, fine, same_dim, sees_bufs, are_keys, is_below, Typed}
 use Rattle.us_code_laws.proofs.Sequence.{put_same, put_other}
 use Rattle.us_code_laws.proofs.Sound.{both_true}
 use Rattle.us_gen.specs.Rooms.{FreshFrom}
-use Rattle.us_gen_query.specs.Filling.{column, width, words, Visible}
-use Rattle.us_gen_query.specs.Counting.{row_major, run_step, run_place, run_length, longest, enumerate_turn, enumerate, sum_turn, look_up, sum, places, one_word, EnumerateTyped, SumTyped}
+use Rattle.us_gen_query.specs.Filling.{words, Visible}
+use Rattle.us_gen_query.specs.Counting.{row_major, run_step, run_place, run_length, longest, enumerate_turn, sum_turn, look_up, places, EnumerateTyped, SumTyped}
 use Rattle.us_gen_query.proofs.FillsFit.{fits_same}
 
 same_number : (n : ℕ) → nat_eq n n ≡ true

@@ -1,9 +1,8 @@
 -- What the loops that count do.
-use Rattle.std.proofs.Common.{◌≡◌, ◌≢◌, ℕ, zero, suc, ◌+◌, ◌-◌, ◌*◌, ◌^◌, ◌<◌, ◌≤◌, Bool, true, false, cond, nat_lt, nat_eq, max, refl, sym, ap, ap₂, ◌∙◌, subst, arith, List, [], ◌∷◌, map, length, get_or, ℤ, pos, negsuc, ◌+ℤ◌, ◌-ℤ◌, ◌⊎◌, inl, inr, w64, if◌then◌else◌}
+use Rattle.std.proofs.Common.{◌≡◌, ◌≢◌, ℕ, zero, suc, ◌+◌, ◌-◌, ◌*◌, ◌^◌, ◌<◌, ◌≤◌, Bool, true, false, nat_lt, nat_eq, max, refl, sym, ap, ap₂, ◌∙◌, subst, arith, List, map, length, ℤ, pos, negsuc, ◌+ℤ◌, ◌-ℤ◌, w64, if◌then◌else◌}
 use Rattle.std.specs.Prelude.{slice_index_or, slice_set}
 use Rattle.std.specs.Int.{int_wrap}
 use Rattle.std.specs.Ordering.{int_eq}
-use Rattle.std.proofs.lemmas.Bool.{cases_eq}
 use Rattle.std.proofs.lemmas.Bool.Decides.{nat_tests, Decides-int_eq}
 use Rattle.std.proofs.lemmas.Int.{ints}
 use Rattle.std.proofs.lemmas.List.{length-set, get_or-set_same, get_or-set_other}
@@ -12,18 +11,18 @@ use Rattle.us_code.specs.declared.program.Dim.TheVariants as dim
 use Rattle.us_code.specs.declared.program.Buf.{Buf}
 use Rattle.us_code.specs.declared.program.Buf.TheVariants as buf
 use Rattle.us_code.specs.declared.pieces.Columns.{Columns}
-use Rattle.us_code.specs.Plain.{TermTree, Number, Reg, Code, End, Load, Var, Put, Set, For, If, When, Order}
+use Rattle.us_code.specs.Plain.{TermTree, Number, Reg, Code, End, Load, Var, Put, Set, For, If}
 use Rattle.us_code.specs.Run.{Env, State, exec, put, tick, set_reg, set_buf, test, cells, value, all_long}
 use Rattle.us_code.specs.Sort.{ordered}
 use Rattle.us_code_laws.specs.Does.{Does}
 use Rattle.us_code_laws.proofs.Rules.{statement_rules}
 use Rattle.us_code_laws.proofs.Sequence.{put_same, put_other}
 use Rattle.us_code_laws.proofs.Sorts.{length_ordered, ordered_cell, ordered_lt}
-use Rattle.us_code_laws.proofs.Does.{do_end, do_weaker, do_set, do_load, do_for, do_when, do_var, do_put, do_order, do_if_yes, do_if_no}
+use Rattle.us_code_laws.proofs.Does.{do_end, do_weaker, do_set, do_for, do_var, do_put, do_order, do_if_yes, do_if_no}
 use Rattle.us_gen.proofs.LevelRuns.{wrap_small}
 use Rattle.us_query_loops.specs.Sorted.{place_at}
-use Rattle.us_query_loops.specs.Runs.{last_at, start_at, so_far, most_at, length_at, filled_at}
-use Rattle.us_gen_query.specs.Counting.{no_value, row_major, run_step, run_place, run_length, longest, enumerate_turn, enumerate, sum_turn, look_up, sum, order_by, value_by, IsZeros, Enumerated, Enumerates, Summed, Sums}
+use Rattle.us_query_loops.specs.Runs.{last_at, start_at, most_at, filled_at}
+use Rattle.us_gen_query.specs.Counting.{no_value, row_major, run_step, run_place, run_length, longest, enumerate_turn, enumerate, order_by, value_by, IsZeros, Enumerates}
 
 -- ---- tests
 
@@ -146,35 +145,33 @@ length_value env regs n x st hx hs le small =
     let one : x - st + 1 ≡ suc x - st = omega (arith, le) in
     ap (λ (z : ℤ). int_wrap w64 (z +ℤ pos 1)) (place_value env regs n x st hx hs le small) ∙ (wrap_small (x - st + 1) (omega (arith, small)) ∙ ap pos one)
 
-record Longer (n k : ℕ) (s u : State) : Type 0 where
-  pub most : u.regs (n + 2) ≡ pos k
-  pub regs : (r : ℕ) → r ≢ n + 2 → u.regs r ≡ s.regs r
+pub record Kept (r k : ℕ) (s u : State) : Type 0 where
+  pub most : u.regs r ≡ pos k
+  pub regs : (x : ℕ) → x ≢ r → u.regs x ≡ s.regs x
   pub bufs : u.bufs ≡ s.bufs
   pub steps : u.steps ≤ s.steps + 2
 
-longest_does : (env : Env) (n : ℕ) (s : State) (a l : ℕ) → s.regs (n + 2) ≡ pos a → value env s.regs (run_length n) ≡ pos l → Does env (longest n) s (Longer n (max a l) s)
-longest_does env n s a l hm hl = case (nat_lt a l) refl
+-- register r keeps the greater of its number and a term's
+pub keep_does : (env : Env) (r : ℕ) (e : TermTree) (s : State) (a l : ℕ) → s.regs r ≡ pos a → value env s.regs e ≡ pos l → Does env (If (Reg r) false e (Put r e End) false End End) s (Kept r (max a l) s)
+keep_does env r e s a l hm hl = case (nat_lt a l) refl
   where
-    Q : State → Type 0
-    Q u = Longer n (max a l) s u
-
     more : nat_lt a l ≡ true → max a l ≡ l
-    more e = let lt : a < l = grind (arith, nat_tests) in omega (arith, lt)
+    more q = let lt : a < l = grind (arith, nat_tests) in omega (arith, lt)
 
     same : nat_lt a l ≡ false → max a l ≡ a
-    same e = let le : l ≤ a = grind (arith, nat_tests) in omega (arith, le)
+    same q = let le : l ≤ a = grind (arith, nat_tests) in omega (arith, le)
 
-    case : (b : Bool) → nat_lt a l ≡ b → Does env (longest n) s (Longer n (max a l) s)
-    case true e =
-        let u = set_reg (n + 2) (value env s.regs (run_length n)) (tick 1 (tick 1 s)) in
-        let q : Longer n (max a l) s u = record { most = put_same s.regs (n + 2) _ ∙ (hl ∙ ap pos (sym (more e))); regs = λ r h. put_other s.regs (n + 2) _ r (λ q. h (sym q)); bufs = refl; steps = omega arith } in
-        do_if_yes env (Reg (n + 2)) false (run_length n) (Put (n + 2) (run_length n) End) false End End s (Longer n (max a l) s) (ap₂ lt_z hm hl ∙ e)
-        (do_put env (n + 2) (run_length n) End (tick 1 s) (λ u. Does env End u (Longer n (max a l) s)) (do_end env u (λ u. Does env End u (Longer n (max a l) s)) (do_end env u (Longer n (max a l) s) q)))
-    case false e =
+    case : (b : Bool) → nat_lt a l ≡ b → Does env (If (Reg r) false e (Put r e End) false End End) s (Kept r (max a l) s)
+    case true q =
+        let u = set_reg r (value env s.regs e) (tick 1 (tick 1 s)) in
+        let k : Kept r (max a l) s u = record { most = put_same s.regs r _ ∙ (hl ∙ ap pos (sym (more q))); regs = λ x h. put_other s.regs r _ x (λ z. h (sym z)); bufs = refl; steps = omega arith } in
+        do_if_yes env (Reg r) false e (Put r e End) false End End s (Kept r (max a l) s) (ap₂ lt_z hm hl ∙ q)
+        (do_put env r e End (tick 1 s) (λ u. Does env End u (Kept r (max a l) s)) (do_end env u (λ u. Does env End u (Kept r (max a l) s)) (do_end env u (Kept r (max a l) s) k)))
+    case false q =
         let u = tick 1 s in
-        let q : Longer n (max a l) s u = record { most = hm ∙ ap pos (sym (same e)); regs = λ r h. refl; bufs = refl; steps = omega arith } in
-        do_if_no env (Reg (n + 2)) false (run_length n) (Put (n + 2) (run_length n) End) false End End s (Longer n (max a l) s) (ap₂ lt_z hm hl ∙ e)
-        (do_end env u (λ u. Does env End u (Longer n (max a l) s)) (do_end env u (Longer n (max a l) s) q))
+        let k : Kept r (max a l) s u = record { most = hm ∙ ap pos (sym (same q)); regs = λ x h. refl; bufs = refl; steps = omega arith } in
+        do_if_no env (Reg r) false e (Put r e End) false End End s (Kept r (max a l) s) (ap₂ lt_z hm hl ∙ q)
+        (do_end env u (λ u. Does env End u (Kept r (max a l) s)) (do_end env u (Kept r (max a l) s) k))
 
 pub start_below : (none : ℤ) (v : ℕ → ℤ) (x : ℕ) → start_at none v x ≤ x
 start_below none v zero = omega arith
@@ -244,7 +241,7 @@ enumerate_turns env k p z n m order v a small kz pz o t u lt i =
     let now : u3.bufs z ≡ slice_set (u2.bufs z) y (value env u2.regs (run_place n)) = put_same u2.bufs z _ in
     let old : (c : ℕ) → c < m → slice_index_or (u2.bufs z) c (pos 0) ≡ pos (filled_at order (λ x. x - start_at none v (suc x)) t c) = λ c lc. ap (λ (f : ℕ → List ℤ). slice_index_or (f z) c (pos 0)) mv.bufs ∙ i.ranks c lc in
     let most3 : u3.regs (n + 2) ≡ pos (most_at none v t) = mv.most ∙ (put_other u.regs (n + 3) _ (n + 2) (omega arith) ∙ i.most) in
-    let done : (x : State) → Longer n (max (most_at none v t) (suc t - st)) u3 x → Enumerating n m z order v (suc t) a x = λ x l. record {
+    let done : (x : State) → Kept (n + 2) (max (most_at none v t) (suc t - st)) u3 x → Enumerating n m z order v (suc t) a x = λ x l. record {
       last = l.regs n (omega arith) ∙ mv.last;
       start = l.regs (n + 1) (omega arith) ∙ mv.start;
       most = l.most;
@@ -256,7 +253,7 @@ enumerate_turns env k p z n m order v a small kz pz o t u lt i =
     } in
     does_from env (enumerate_turn p k z n) (Set (buf.New z) (Reg (n + 4)) (run_place n) (longest n)) u1 u2 (Enumerating n m z order v (suc t) a) w.1 mv.stuck
     (do_set env z (Reg (n + 4)) (run_place n) (longest n) u2 (Enumerating n m z order v (suc t) a) y mv.place room
-    (do_weaker env (longest n) u3 (Longer n (max (most_at none v t) (suc t - st)) u3) (Enumerating n m z order v (suc t) a) done (longest_does env n u3 (most_at none v t) (suc t - st) most3 lv)))
+    (do_weaker env (longest n) u3 (Kept (n + 2) (max (most_at none v t) (suc t - st)) u3) (Enumerating n m z order v (suc t) a) done (keep_does env (n + 2) (run_length n) u3 (most_at none v t) (suc t - st) most3 lv)))
 
 -- behind the order, and behind the variables
 abbrev behind_order : ℕ → List ℤ → ℕ → State → State

@@ -1,24 +1,22 @@
 -- The loop that fills a column is typed.
-use Rattle.std.proofs.Common.{◌≡◌, ◌≢◌, ℕ, zero, suc, ◌+◌, ◌<◌, ◌≤◌, Bool, true, false, cond, eqb, ◌&&◌, nat_eq, refl, sym, ap, ap₂, ◌∙◌, subst, arith, length, Option, Some, None, ◌⊎◌, inl, inr}
+use Rattle.std.proofs.Common.{◌≡◌, ◌≢◌, ℕ, zero, suc, ◌+◌, ◌<◌, Bool, true, false, cond, refl, sym, ap, ap₂, ◌∙◌, subst, arith, length, Option, Some, None, ◌⊎◌, inl, inr}
 use Rattle.std.proofs.lemmas.Bool.{cases_eq, or_left, or_right}
 use Rattle.std.proofs.lemmas.Bool.Decides.{nat_tests}
 use Rattle.us_code.specs.declared.program.Dim.{Dim}
 use Rattle.us_code.specs.declared.program.Dim.TheVariants as dim
 use Rattle.us_code.specs.declared.program.Buf.TheVariants as buf
-use Rattle.us_code.specs.declared.program.CellKind.{CellKind}
 use Rattle.us_code.specs.declared.program.CellKind.TheVariants as kind
 use Rattle.us_code.specs.declared.pieces.Columns.{Columns}
-use Rattle.us_code.specs.Plain.{TermTree, Reg, Code, End, Let, Load, Var, Put, Set, For, Span, If, When, Order, ◌+++◌}
-use Rattle.us_code.specs.Typing.{Context, Form, RegKind, BufKind, is_some, reg_kind, buf_len, buf_cell, with_reg, fits, fits_cell, kind_of, cell_of, fine, Typed, outer}
+use Rattle.us_code.specs.Plain.{Reg, Code, End, Let, Load, Var, Put, Set, For, Span, If, When, Order, ◌+++◌}
+use Rattle.us_code.specs.Typing.{Context, RegKind, BufKind, is_some, reg_kind, buf_len, buf_cell, with_reg, fits, fits_cell, kind_of, cell_of, fine, Typed, outer}
 use Rattle.us_code_laws.proofs.Sequence.{put_same, put_other}
 use Rattle.us_code_laws.proofs.Sound.{both_true}
 use Rattle.us_code_laws.proofs.Typings.{typed_append}
 use Rattle.us_gen.specs.Rooms.{FreshFrom}
 use Rattle.us_gen.proofs.NestsFit.{fresh_more}
 use Rattle.us_expr.specs.Tree.{Tree, RowIndex, ColIndex, Number, Variable, Sum, Difference, Quotient, Remainder}
-use Rattle.us_expr.specs.Value.{IsWithin}
 use Rattle.us_gen_query.specs.Terms.{reads, term_of}
-use Rattle.us_gen_query.specs.Filling.{column, width, loads, fill, words, Visible, FillTyped}
+use Rattle.us_gen_query.specs.Filling.{column, width, loads, words, FillTyped}
 use Rattle.us_gen_query.proofs.TermValues.{reads_within}
 
 -- what is visible behind two blocks is what is visible behind the second

@@ -1,12 +1,12 @@
 -- What the loop that fills a column does.
-use Rattle.std.proofs.Common.{◌≡◌, ◌≢◌, ℕ, zero, suc, ◌+◌, ◌*◌, ◌<◌, ◌≤◌, Bool, true, false, cond, refl, sym, ap, ◌∙◌, subst, arith, List, length, get_or, ℤ, pos, ◌⊎◌, inl, inr}
+use Rattle.std.proofs.Common.{◌≡◌, ◌≢◌, ℕ, zero, suc, ◌+◌, ◌<◌, ◌≤◌, Bool, true, false, cond, refl, sym, ap, ◌∙◌, subst, arith, List, length, ℤ, pos, ◌⊎◌, inl, inr}
 use Rattle.std.specs.Prelude.{slice_index_or, slice_set}
 use Rattle.std.proofs.lemmas.Bool.{cases_eq}
 use Rattle.std.proofs.lemmas.List.{length-set, get_or-set_same, get_or-set_other}
 use Rattle.us_code.specs.declared.program.Dim.TheVariants as dim
 use Rattle.us_code.specs.declared.program.Buf.TheVariants as buf
 use Rattle.us_code.specs.declared.pieces.Columns.{Columns}
-use Rattle.us_code.specs.Plain.{Reg, Code, End, Load, Set, ◌+++◌}
+use Rattle.us_code.specs.Plain.{Reg, End, Load, Set, ◌+++◌}
 use Rattle.us_code.specs.Run.{Env, State, exec, put, tick, set_reg, set_buf}
 use Rattle.us_code.specs.Run as run
 use Rattle.us_code_laws.specs.Does.{Does}
@@ -14,9 +14,9 @@ use Rattle.us_code_laws.proofs.Rules.{statement_rules}
 use Rattle.us_code_laws.proofs.Sequence.{put_same, put_other, exec_append}
 use Rattle.us_code_laws.proofs.Does.{do_end, do_append, do_set, do_for}
 use Rattle.us_expr.specs.Tree.{Tree, node_count}
-use Rattle.us_expr.specs.Value.{IsPoint, IsWithin, IsValid, value}
+use Rattle.us_expr.specs.Value.{IsWithin, IsValid, value}
 use Rattle.us_gen_query.specs.Terms.{reads, reading, term_of, point}
-use Rattle.us_gen_query.specs.Filling.{column, width, loads, fill, Entries, Filled, FillsIn, Fills}
+use Rattle.us_gen_query.specs.Filling.{column, width, loads, fill, Entries, Filled, Fills}
 use Rattle.us_gen_query.proofs.TermValues.{terms_have_values, reads_within}
 
 -- from s to u the columns among the first c that e reads were read at place x

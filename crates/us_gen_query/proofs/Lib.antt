@@ -5,7 +5,12 @@ pub mod CountsFit
 pub mod CountsRun
 pub mod SumsRun
 pub mod ReordersFit
+pub mod AtIndex
 pub mod ReordersRun
 pub mod SchedulesFit
+pub mod LoadsLight
+pub mod SpreadsRun
+pub mod SchedulesRun
+pub mod RowsRun
 pub mod SelectsFit
 pub mod SelectsRun

@@ -7,14 +7,14 @@ use Rattle.us_code.specs.declared.program.Buf.TheVariants as buf
 use Rattle.us_code.specs.declared.program.CellKind.{CellKind}
 use Rattle.us_code.specs.declared.program.CellKind.TheVariants as kind
 use Rattle.us_code.specs.declared.pieces.Columns.{Columns}
-use Rattle.us_code.specs.Plain.{Number, Reg, Sub, Code, End, Load, Set, When, Order, ◌+++◌}
+use Rattle.us_code.specs.Plain.{Number, Reg, Sub, Code, End, Order, ◌+++◌}
 use Rattle.us_code.specs.Typing.{Context, RegKind, BufKind, is_some, reg_kind, buf_len, buf_cell, with_reg, fits, fits_cell, fine, sees_dim, same_dim, is_below, Typed}
 use Rattle.us_code_laws.proofs.Sequence.{put_same, put_other}
 use Rattle.us_code_laws.proofs.Sound.{both_true}
 use Rattle.us_code_laws.proofs.Typings.{typed_append}
 use Rattle.us_gen.specs.Rooms.{FreshFrom}
-use Rattle.us_gen_query.specs.Filling.{words, Visible}
-use Rattle.us_gen_query.specs.Reordering.{at_index, one_less, looked_up, invert, reorder, counts, indices, ReorderTyped}
+use Rattle.us_gen_query.specs.Filling.{words}
+use Rattle.us_gen_query.specs.Reordering.{at_index, one_less, looked_up, invert, counts, indices, ReorderTyped}
 use Rattle.us_gen_query.proofs.FillsFit.{fits_same}
 
 -- a register below a dim

@@ -1,72 +1,33 @@
 -- What the loops that rank the rows or the columns do.
-use Rattle.std.proofs.Common.{◌≡◌, ◌≢◌, ℕ, zero, suc, ◌+◌, ◌*◌, ◌^◌, ◌<◌, ◌≤◌, Bool, true, false, nat_eq, refl, sym, ap, ◌∙◌, subst, arith, List, [], ◌∷◌, map, length, get_or, ℤ, pos, negsuc, ◌-ℤ◌, w64, if◌then◌else◌}
+use Rattle.std.proofs.Common.{◌≡◌, ◌≢◌, ℕ, zero, suc, ◌+◌, ◌*◌, ◌^◌, ◌<◌, ◌≤◌, Bool, true, false, nat_eq, refl, sym, ap, ◌∙◌, subst, arith, List, [], ◌∷◌, map, length, ℤ, pos, negsuc, ◌-ℤ◌, w64, if◌then◌else◌}
 use Rattle.std.specs.Prelude.{slice_index_or, slice_set}
 use Rattle.std.specs.Int.{int_wrap}
-use Rattle.std.specs.List.{range_with_len}
 use Rattle.std.proofs.lemmas.Bool.Decides.{nat_tests}
 use Rattle.std.proofs.lemmas.Int.{ints, int_wrap_fits}
 use Rattle.std.proofs.lemmas.List.{length-set, get_or-set_same, get_or-set_other, get_or_default, same_lists}
 use Rattle.std.proofs.lemmas.List.FromFn.{length-map-range_with_len, get_or-map-range_with_len}
 use Rattle.us_code.specs.declared.program.Dim.{Dim}
-use Rattle.us_code.specs.declared.program.Dim.TheVariants as dim
 use Rattle.us_code.specs.declared.program.Buf.TheVariants as buf
 use Rattle.us_code.specs.declared.pieces.Columns.{Columns}
-use Rattle.us_code.specs.Plain.{Number, Reg, Sub, Code, End, Load, Set, For, When, Order, ◌+++◌}
-use Rattle.us_code.specs.Run.{Env, State, exec, put, tick, set_reg, set_buf, cells, value, size_of, all_long}
+use Rattle.us_code.specs.Plain.{Number, Reg, Sub, Code, End, Load, Set, Order, ◌+++◌}
+use Rattle.us_code.specs.Run.{Env, State, tick, set_reg, set_buf, size_of, all_long}
 use Rattle.us_code.specs.Sort.{ordered}
 use Rattle.us_code_laws.specs.Does.{Does}
 use Rattle.us_code_laws.proofs.Sequence.{put_same, put_other}
 use Rattle.us_code_laws.proofs.Sorts.{length_ordered, ordered_cell, ordered_lt}
-use Rattle.us_code_laws.proofs.Does.{do_end, do_append, do_weaker, do_set, do_load, do_for, do_when, do_order}
+use Rattle.us_code_laws.proofs.Does.{do_end, do_append, do_weaker, do_set, do_load, do_for, do_order}
 use Rattle.us_query_loops.specs.Ranks.{downwards}
 use Rattle.us_query_loops.specs.Sorted.{place_at}
 use Rattle.us_query_loops.specs.Runs.{filled_at}
 use Rattle.us_gen_query.specs.Counting.{IsZeros}
-use Rattle.us_gen_query.specs.Reordering.{at_index, one_less, looked_up, invert, reorder, passed, counted_down, by_count, AreIndices, Reordered, Reorders}
+use Rattle.us_gen_query.specs.Reordering.{at_index, one_less, looked_up, invert, reorder, passed, counted_down, by_count, AreIndices, Reorders}
+use Rattle.us_gen_query.proofs.AtIndex.{Passing, Inner, at_index_does}
 use Rattle.us_gen_query.proofs.FillsRun.{set_more}
 use Rattle.us_gen_query.proofs.CountsRun.{set_cell}
 
--- ---- a loop over the indices of the entries
-
--- what holds after t entries, with the registers below n as they were, at so many steps an entry
-record Passing (n cost : ℕ) (I : ℕ → (ℕ → List ℤ) → Type 0) (t : ℕ) (a u : State) : Type 0 where
-  pub holds : I t u.bufs
-  pub regs : (r : ℕ) → r < n → u.regs r ≡ a.regs r
-  pub steps : u.steps ≤ a.steps + 1 + t * cost
-
--- what the inner block does at the entry t of the index g
-abbrev Inner : Env → ℕ → (ℕ → (ℕ → List ℤ) → Type 0) → Code → ℕ → ℕ → Type 0
-Inner env n I inner t g =
-    (s : State) → s.regs n ≡ pos t → s.regs (n + 2) ≡ pos g → I t s.bufs → Does env inner s (λ u. I (suc t) u.bufs × ((r : ℕ) → r < n → u.regs r ≡ s.regs r) × (u.steps ≡ s.steps + 2))
-
-at_index_does : (env : Env) (cs : Columns) (i : ℕ) (size : Dim) (n m : ℕ) (inner : Code) (index : ℕ → ℕ) (I : ℕ → (ℕ → List ℤ) → Type 0) (a : State) → env.dims cs.count ≡ m
-    → ((t : ℕ) (bufs : ℕ → List ℤ) → I t bufs → AreIndices (bufs i) m (size_of env size) index) → I 0 a.bufs → ((t : ℕ) → t < m → Inner env n I inner t (index t))
-    → Does env (at_index cs i size n inner) a (Passing n 5 I m a)
-at_index_does env cs i size n m inner index I a count held base step =
-    do_for env n (dim.Name cs.count) (Load (n + 1) (buf.New i) (Reg n) (When (Reg (n + 1)) size (n + 2) inner false End End)) End a (Passing n 5 I m a) (λ t u. Passing n 5 I t a u)
-    (record { holds = base; regs = λ r h. refl; steps = omega arith })
-    (λ t u lt p. turn t u (omega (arith, lt, count)) p)
-    (λ u p. do_end env u (Passing n 5 I m a) (subst (λ (x : ℕ). Passing n 5 I x a u) count p))
-  where
-    turn : (t : ℕ) (u : State) → t < m → Passing n 5 I t a u → Does env (Load (n + 1) (buf.New i) (Reg n) (When (Reg (n + 1)) size (n + 2) inner false End End)) (set_reg n (pos t) (tick 1 u)) (Passing n 5 I (suc t) a)
-    turn t u lt p =
-        let Q = Passing n 5 I (suc t) a in
-        let x = held t u.bufs p.holds in
-        let g = index t in
-        let u1 = set_reg n (pos t) (tick 1 u) in
-        let u2 = set_reg (n + 1) (slice_index_or (u1.bufs i) t (pos 0)) (tick 1 u1) in
-        let u3 = set_reg (n + 2) (pos g) (tick 1 u2) in
-        let at : u3.regs n ≡ pos t = put_other u2.regs (n + 2) _ n (omega arith) ∙ (put_other u1.regs (n + 1) _ n (omega arith) ∙ put_same u.regs n _) in
-        let low : (r : ℕ) → r < n → u3.regs r ≡ u.regs r = λ r h. put_other u2.regs (n + 2) _ r (omega (arith, h)) ∙ (put_other u1.regs (n + 1) _ r (omega (arith, h)) ∙ put_other u.regs n _ r (omega (arith, h))) in
-        do_load env (n + 1) (buf.New i) (Reg n) (When (Reg (n + 1)) size (n + 2) inner false End End) u1 Q t (put_same u.regs n _) (omega (arith, lt, x.long))
-        (do_when env (Reg (n + 1)) size (n + 2) inner false End End u2 Q g (put_same u1.regs (n + 1) _ ∙ x.cells t lt) (x.below t lt)
-        (do_weaker env inner u3 (λ w. I (suc t) w.bufs × ((r : ℕ) → r < n → w.regs r ≡ u3.regs r) × (w.steps ≡ u3.steps + 2)) (λ w. Does env End w Q)
-        (λ w q. do_end env w Q record { holds = q.0; regs = λ r h. q.1 r h ∙ (low r h ∙ p.regs r h); steps = omega (arith, q.2, p.steps) })
-        (step t lt u3 at (put_same u2.regs (n + 2) _) p.holds)))
-
 -- ---- counts
 
-passed_few : (index : ℕ → ℕ) (x a : ℕ) → passed index x a ≤ x
+pub passed_few : (index : ℕ → ℕ) (x a : ℕ) → passed index x a ≤ x
 passed_few index zero a = omega arith
 passed_few index (suc x) a = case (nat_eq (index x) a) (passed_few index x a)
   where
@@ -96,7 +57,7 @@ down_cell xs size t index v lt is old y ly = case (nat_eq (index t) y) refl
     case true e = let at : index t ≡ y = grind (arith, nat_tests) in subst (λ (x : ℕ). slice_index_or (slice_set xs (index t) v) x (pos 0) ≡ downwards (suc (passed index t x))) at (get_or-set_same xs (index t) v (pos 0) lt ∙ is)
     case false e = let ne : y ≢ index t = grind (arith, nat_tests) in get_or-set_other xs (index t) y v (pos 0) ne ∙ old y ly
 
-down_turns : (env : Env) (a : State) (m size i b n : ℕ) (index : ℕ → ℕ) → m < 2 ^ 62 → i ≢ b → (t : ℕ) → t < m → Inner env n (Down a m size i b index) (one_less b n) t (index t)
+down_turns : (env : Env) (a : State) (m size i b n : ℕ) (index : ℕ → ℕ) → m < 2 ^ 62 → i ≢ b → (t : ℕ) → t < m → Inner env n 2 (Down a m size i b index) (one_less b n) t (index t)
 down_turns env a m size i b n index small ib t lt s at hg d =
     let g = index t in
     let Q : State → Type 0 = λ u. Down a m size i b index (suc t) u.bufs × ((r : ℕ) → r < n → u.regs r ≡ s.regs r) × (u.steps ≡ s.steps + 2) in
@@ -174,7 +135,7 @@ record Looking (a : State) (m size i q z : ℕ) (index R : ℕ → ℕ) (t : ℕ
   pub cells : (y : ℕ) → y < t → slice_index_or (bufs z) y (pos 0) ≡ pos (R (index y))
   pub others : (c : ℕ) → c ≢ z → bufs c ≡ a.bufs c
 
-look_turns : (env : Env) (a : State) (m size i q z n : ℕ) (index R : ℕ → ℕ) → i ≢ z → q ≢ z → (t : ℕ) → t < m → Inner env n (Looking a m size i q z index R) (looked_up q z n) t (index t)
+look_turns : (env : Env) (a : State) (m size i q z n : ℕ) (index R : ℕ → ℕ) → i ≢ z → q ≢ z → (t : ℕ) → t < m → Inner env n 2 (Looking a m size i q z index R) (looked_up q z n) t (index t)
 look_turns env a m size i q z n index R iz qz t lt s at hg d =
     let g = index t in
     let Q : State → Type 0 = λ u. Looking a m size i q z index R (suc t) u.bufs × ((r : ℕ) → r < n → u.regs r ≡ s.regs r) × (u.steps ≡ s.steps + 2) in
@@ -261,7 +222,7 @@ module _ (env : Env) (cs : Columns) (i : ℕ) (size : Dim) (b o q z n m : ℕ) (
             cells = λ y ly. absurd (omega (arith, ly));
             others = λ c h. refl;
           } in
-          let looks = at_index_does env cs i size (n + 6) m (looked_up q z (n + 6)) index (Looking w m A i q z index R) w count (λ t bufs x. x.given) begin (look_turns env w m A i q z (n + 6) index R iz qz) in
+          let looks = at_index_does env cs i size (n + 6) m 2 (looked_up q z (n + 6)) index (Looking w m A i q z index R) w count (λ t bufs x. x.given) begin (look_turns env w m A i q z (n + 6) index R iz qz) in
           do_weaker env back w (Passing (n + 6) 5 (Looking w m A i q z index R) m w) Q
           (λ x y. record {
             table = y.holds.others o oz ∙ (v.others o oq ∙ table);
@@ -275,7 +236,7 @@ module _ (env : Env) (cs : Columns) (i : ℕ) (size : Dim) (b o q z n m : ℕ) (
   reorder_does : Does env (reorder cs i size b o q z n) s (Ended n m (size_of env size) b o q z index (by_count index m (size_of env size)) s)
   reorder_does =
       let begin : Down s m A i b index 0 s.bufs = record { given = given; long = zb.long; cells = zb.cells; others = λ c h. refl } in
-      let downs = at_index_does env cs i size n m (one_less b n) index (Down s m A i b index) s count (λ t bufs x. x.given) begin (down_turns env s m A i b n index small ib) in
+      let downs = at_index_does env cs i size n m 2 (one_less b n) index (Down s m A i b index) s count (λ t bufs x. x.given) begin (down_turns env s m A i b n index small ib) in
       do_append env (at_index cs i size n (one_less b n)) (Order (buf.New o) (buf.New b ∷ []) End +++ middle) s Q
       (do_weaker env (at_index cs i size n (one_less b n)) s (Passing n 5 (Down s m A i b index) m s) (λ u. Does env (Order (buf.New o) (buf.New b ∷ []) End +++ middle) u Q) after_order downs)
 

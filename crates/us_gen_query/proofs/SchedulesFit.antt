@@ -1,21 +1,20 @@
 -- The loops that spread the rows or the columns over lanes are typed.
-use Rattle.std.proofs.Common.{◌≡◌, ◌≢◌, ℕ, ◌+◌, ◌<◌, ◌≤◌, Bool, true, false, ◌&&◌, refl, sym, ap, ap₂, ◌∙◌, arith, Option, Some, None}
+use Rattle.std.proofs.Common.{◌≡◌, ◌≢◌, ℕ, ◌+◌, ◌<◌, true, false, refl, sym, ap, ap₂, ◌∙◌, arith, Option, Some, None}
 use Rattle.us_code.specs.declared.program.Dim.{Dim}
 use Rattle.us_code.specs.declared.program.Dim.TheVariants as dim
 use Rattle.us_code.specs.declared.program.CellKind.{CellKind}
 use Rattle.us_code.specs.declared.program.CellKind.TheVariants as kind
 use Rattle.us_code.specs.declared.pieces.Columns.{Columns}
 use Rattle.us_code.specs.declared.program.Buf.TheVariants as buf
-use Rattle.us_code.specs.Plain.{Number, Reg, Add, Code, Set, ◌+++◌}
+use Rattle.us_code.specs.Plain.{Number, Reg, Size, Add, Mul, Code, End, Set, ◌+++◌}
 use Rattle.us_code.specs.Typing.{Context, RegKind, is_some, is_put, reg_kind, buf_len, buf_cell, with_reg, fits, fits_cell, fine, sees_dim, Typed}
 use Rattle.us_code_laws.proofs.Sequence.{put_same, put_other}
 use Rattle.us_code_laws.proofs.Sound.{both_true}
 use Rattle.us_code_laws.proofs.Typings.{typed_append}
 use Rattle.us_gen.specs.Rooms.{FreshFrom}
 use Rattle.us_gen_query.specs.declared.scheduling.ScheduleBuffers.{ScheduleBuffers}
-use Rattle.us_gen_query.specs.Filling.{words, Visible}
-use Rattle.us_gen_query.specs.Reordering.{at_index, counts, indices}
-use Rattle.us_gen_query.specs.Scheduling.{one_more, lane_turn, slots, most, take_slot, spread_turn, spread, both_looked_up, schedule, HasBuffers, ScheduleTyped}
+use Rattle.us_gen_query.specs.Reordering.{at_index, counts}
+use Rattle.us_gen_query.specs.Scheduling.{one_more, lane_turn, slots, most, take_slot, spread_turn, spread, both_looked_up, HasBuffers, ScheduleTyped, RowsTyped}
 use Rattle.us_gen_query.proofs.FillsFit.{fits_same}
 use Rattle.us_gen_query.proofs.ReordersFit.{below, fits_at, Indexed, in_index, indexed, at_index_typed, later, sees_more}
 
@@ -170,3 +169,39 @@ schedule_typed g cs i size lanes b n f v s hi y =
     let back : Code = at_index cs i size m (both_looked_up b m) in
     typed_append g (at_index cs i size n (one_more b.counts n)) (spread size b lanes (n + 4) +++ back) first
     (typed_append g (spread size b lanes (n + 4)) back (spread_typed g cs size lanes b (n + 4) f4 s y) last)
+
+pub rows_typed : RowsTyped
+rows_typed g size b lanes table extent t n f s st de hl hk ht =
+    let g1 = with_reg g n false (kind.Below size) in
+    let g2 = with_reg g1 (n + 1) false (buf_cell (g.bufs b.lane)) in
+    let g3 = with_reg g2 (n + 2) false (buf_cell (g.bufs b.slot)) in
+    let g4 = with_reg g3 (n + 3) false (kind.Below table) in
+    let at1 : g1.regs n ≡ Some (below size) = put_same g.regs n _ in
+    let at2 : g2.regs n ≡ Some (below size) = put_other g1.regs (n + 1) _ n (omega arith) ∙ at1 in
+    let at4 : g4.regs n ≡ Some (below size) = put_other g3.regs (n + 3) _ n (omega arith) ∙ (put_other g2.regs (n + 2) _ n (omega arith) ∙ at2) in
+    let free1 : g1.regs (n + 1) ≡ None = put_other g.regs n _ (n + 1) (omega arith) ∙ f.none (n + 1) (omega arith) in
+    let free2 : g2.regs (n + 2) ≡ None = put_other g1.regs (n + 1) _ (n + 2) (omega arith) ∙ (put_other g.regs n _ (n + 2) (omega arith) ∙ f.none (n + 2) (omega arith)) in
+    let free3 : g3.regs (n + 3) ≡ None =
+    put_other g2.regs (n + 2) _ (n + 3) (omega arith) ∙ (put_other g1.regs (n + 1) _ (n + 3) (omega arith) ∙ (put_other g.regs n _ (n + 3) (omega arith) ∙ f.none (n + 3) (omega arith))) in
+    let lane3 : is_some (g3.regs (n + 1)) ≡ true = ap is_some (put_other g2.regs (n + 2) _ (n + 1) (omega arith) ∙ put_same g1.regs (n + 1) _) in
+    let slot3 : is_some (g3.regs (n + 2)) ≡ true = ap is_some (put_same g2.regs (n + 2) _) in
+    let start : fine g3 (Mul (Reg (n + 1)) (Size (dim.Name extent))) ≡ true = both_true (is_some (g3.regs (n + 1))) (is_some (g.dims extent)) lane3 de in
+    let place : fine g3 (Add (Mul (Reg (n + 1)) (Size (dim.Name extent))) (Reg (n + 2))) ≡ true =
+    both_true (fine g3 (Mul (Reg (n + 1)) (Size (dim.Name extent)))) (is_some (g3.regs (n + 2))) start slot3 in
+    let seen : sees_dim g3 table ≡ true =
+    sees_more g2 (n + 2) false (buf_cell (g.bufs b.slot)) table (sees_more g1 (n + 1) false (buf_cell (g.bufs b.lane)) table (sees_more g n false (kind.Below size) table st)) in
+    let cell : g4.regs (n + 3) ≡ Some (below table) = put_same g3.regs (n + 3) _ in
+    let more : fine g4 (Add (Reg n) (Number 1)) ≡ true = both_true (is_some (g4.regs n)) true (ap is_some at4) refl in
+    let set_ : Typed g4 (Set (buf.New t) (Reg (n + 3)) (Add (Reg n) (Number 1)) End) =
+    (refl, ap is_some ht, ap is_some cell, more, fits_at (g4.regs (n + 3)) (g.bufs t) table kind.Word cell ht, ap (fits_cell kind.Word) (ap buf_cell ht), tt) in (
+      f.none n (omega arith),
+      s,
+      (
+        free1,
+        ap is_some hl,
+        ap is_some at1,
+        fits_at (g1.regs n) (g.bufs b.lane) size (kind.Below (dim.Number lanes)) at1 hl,
+        (free2, ap is_some hk, ap is_some at2, fits_at (g2.regs n) (g.bufs b.slot) size kind.Word at2 hk, (free3, seen, place, set_, tt, tt)),
+      ),
+      tt,
+    )

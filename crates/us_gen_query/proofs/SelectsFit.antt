@@ -1,21 +1,20 @@
 -- The loops that select are typed.
-use Rattle.std.proofs.Common.{◌≡◌, ◌≢◌, ℕ, suc, ◌+◌, ◌<◌, ◌≤◌, Bool, true, false, cond, ◌&&◌, refl, sym, ap, ap₂, ◌∙◌, arith, List, [], ◌∷◌, length, Option, Some, None}
+use Rattle.std.proofs.Common.{◌≡◌, ℕ, ◌+◌, ◌<◌, Bool, true, false, cond, refl, ap, ap₂, ◌∙◌, arith, List, [], ◌∷◌, length, Option, Some, None}
 use Rattle.us_code.specs.declared.program.Dim.{Dim}
 use Rattle.us_code.specs.declared.program.Dim.TheVariants as dim
-use Rattle.us_code.specs.declared.program.Buf.TheVariants as buf
 use Rattle.us_code.specs.declared.program.CellKind.{CellKind}
 use Rattle.us_code.specs.declared.program.CellKind.TheVariants as kind
 use Rattle.us_code.specs.declared.pieces.Columns.{Columns}
-use Rattle.us_code.specs.Plain.{TermTree, Number, Reg, Add, Code, End, Load, Put, If}
-use Rattle.us_code.specs.Typing.{Context, Form, RegKind, BufKind, is_some, is_put, reg_kind, buf_len, buf_cell, with_reg, fits, fine, Typed}
+use Rattle.us_code.specs.Plain.{Number, Reg, Add, Code, End, Put, If}
+use Rattle.us_code.specs.Typing.{Context, Form, RegKind, BufKind, is_some, is_put, reg_kind, buf_len, buf_cell, with_reg, fits, Typed}
 use Rattle.us_code_laws.proofs.Sequence.{put_same, put_other}
 use Rattle.us_code_laws.proofs.Sound.{both_true}
 use Rattle.us_gen.specs.Rooms.{FreshFrom}
-use Rattle.us_gen.specs.Columns.{append, entry}
+use Rattle.us_gen.specs.Columns.{entry}
 use Rattle.us_gen.proofs.Appending.{appends_typed}
 use Rattle.us_gen_query.specs.declared.selecting.Test.{Test}
 use Rattle.us_gen_query.specs.Filling.{words}
-use Rattle.us_gen_query.specs.Selecting.{branch, guard, count_chosen, copied, copy_chosen, AreTests, CountChosenTyped, CopyChosenTyped}
+use Rattle.us_gen_query.specs.Selecting.{guard, copied, AreTests, CountChosenTyped, CopyChosenTyped}
 use Rattle.us_gen_query.proofs.FillsFit.{fits_same}
 
 -- a place of the entries, and a register that may change

@@ -1,5 +1,5 @@
 -- What the loops that select do.
-use Rattle.std.proofs.Common.{◌≡◌, ◌≢◌, ℕ, zero, suc, ◌+◌, ◌*◌, ◌^◌, ◌<◌, ◌≤◌, Bool, true, false, cond, not, ◌&&◌, ◌||◌, nat_eq, refl, sym, ap, ap₂, ◌∙◌, subst, arith, List, [], ◌∷◌, ◌++◌, length, length-append, take, ℤ, pos, ◌+ℤ◌, ◌⊎◌, inl, inr, w64, if◌then◌else◌}
+use Rattle.std.proofs.Common.{◌≡◌, ◌≢◌, ℕ, zero, suc, ◌+◌, ◌*◌, ◌^◌, ◌<◌, ◌≤◌, Bool, true, false, cond, not, ◌&&◌, nat_eq, refl, sym, ap, ap₂, ◌∙◌, subst, arith, List, [], ◌∷◌, ◌++◌, length, length-append, ℤ, pos, ◌+ℤ◌, ◌⊎◌, inl, inr, w64, if◌then◌else◌}
 use Rattle.std.specs.Prelude.{slice_index_or, slice_set}
 use Rattle.std.specs.Int.{int_wrap}
 use Rattle.std.proofs.lemmas.Bool.{cases_eq}
@@ -9,18 +9,17 @@ use lib.Signed.{lt_z}
 use Rattle.us_code.specs.declared.program.Dim.TheVariants as dim
 use Rattle.us_code.specs.declared.program.Buf.TheVariants as buf
 use Rattle.us_code.specs.declared.pieces.Columns.{Columns}
-use Rattle.us_code.specs.Plain.{Number, Reg, Add, Code, End, Load, Var, Put, For, If}
-use Rattle.us_code.specs.Run.{Env, State, exec, put, tick, set_reg, set_buf, test}
-use Rattle.us_code.specs.Run as run
+use Rattle.us_code.specs.Plain.{Number, Reg, Add, Code, End, Load, Put, For, If}
+use Rattle.us_code.specs.Run.{Env, State, exec, put, tick, set_reg}
 use Rattle.us_code_laws.specs.Does.{Does}
 use Rattle.us_code_laws.proofs.Rules.{statement_rules}
 use Rattle.us_code_laws.proofs.Sequence.{put_same, put_other}
 use Rattle.us_code_laws.proofs.Does.{do_end, do_load, do_for, do_var, do_put}
-use Rattle.us_gen.specs.Columns.{Column, append, entry, fills, are_apart, Ready, Appended, Holds}
+use Rattle.us_gen.specs.Columns.{append, entry, fills, are_apart, Ready, Appended, Holds}
 use Rattle.us_gen.proofs.Appending.{appends, holds_more}
 use Rattle.us_gen.proofs.LevelRuns.{wrap_small}
 use Rattle.us_gen_query.specs.declared.selecting.Test.{Test}
-use Rattle.us_gen_query.specs.Selecting.{guard, count_chosen, copied, copy_chosen, passes, passes_all, AreLong, Lacks, chosen, kept, Counted, CountsChosen, Copied, IsSource, CopiesChosen}
+use Rattle.us_gen_query.specs.Selecting.{guard, copied, passes, passes_all, AreLong, Lacks, chosen, kept, CountsChosen, IsSource, CopiesChosen}
 use Rattle.us_gen_query.proofs.CountsRun.{does_from}
 
 -- ---- tests

@@ -1,22 +1,21 @@
 -- What the loops that sum do.
-use Rattle.std.proofs.Common.{◌≡◌, ◌≢◌, ℕ, zero, suc, ◌+◌, ◌-◌, ◌*◌, ◌^◌, ◌<◌, ◌≤◌, Bool, true, false, nat_eq, refl, sym, ap, ap₂, ◌∙◌, subst, arith, List, [], ◌∷◌, map, length, ℤ, pos, ◌⊎◌, inl, inr, if◌then◌else◌}
+use Rattle.std.proofs.Common.{◌≡◌, ◌≢◌, ℕ, zero, suc, ◌+◌, ◌-◌, ◌*◌, ◌^◌, ◌<◌, ◌≤◌, Bool, true, false, nat_eq, refl, sym, ap, ◌∙◌, subst, arith, List, [], ◌∷◌, map, length, ℤ, pos, ◌⊎◌, inl, inr, if◌then◌else◌}
 use Rattle.std.specs.Prelude.{slice_index_or, slice_set}
 use Rattle.std.proofs.lemmas.Bool.{cases_eq}
 use Rattle.std.proofs.lemmas.Bool.Decides.{nat_tests}
 use Rattle.std.proofs.lemmas.List.{length-set, get_or-set_same, get_or-set_other}
 use Rattle.us_code.specs.declared.program.Dim.TheVariants as dim
-use Rattle.us_code.specs.declared.program.Buf.{Buf}
 use Rattle.us_code.specs.declared.program.Buf.TheVariants as buf
 use Rattle.us_code.specs.declared.pieces.Columns.{Columns}
-use Rattle.us_code.specs.Plain.{Number, Reg, Code, End, Load, Var, Set, For, When}
-use Rattle.us_code.specs.Run.{Env, State, exec, put, tick, set_reg, set_buf, cells, value, all_long}
+use Rattle.us_code.specs.Plain.{Number, Reg, End, Load, Var, Set, For, When}
+use Rattle.us_code.specs.Run.{Env, State, tick, set_reg, set_buf, cells, value, all_long}
 use Rattle.us_code.specs.Sort.{ordered}
 use Rattle.us_code_laws.specs.Does.{Does}
 use Rattle.us_code_laws.proofs.Sequence.{put_same, put_other}
-use Rattle.us_code_laws.proofs.Does.{do_end, do_weaker, do_set, do_load, do_for, do_when, do_var, do_order}
+use Rattle.us_code_laws.proofs.Does.{do_end, do_set, do_load, do_for, do_when, do_var, do_order}
 use Rattle.us_query_loops.specs.Sorted.{place_at}
 use Rattle.us_query_loops.specs.Runs.{last_at, start_at, length_at, filled_at}
-use Rattle.us_gen_query.specs.Counting.{no_value, run_length, sum_turn, look_up, sum, order_by, value_by, IsZeros, Summed, Sums}
+use Rattle.us_gen_query.specs.Counting.{no_value, run_length, sum_turn, look_up, sum, order_by, value_by, IsZeros, Sums}
 use Rattle.us_gen_query.proofs.CountsRun.{Moved, step_moves, does_from, set_cell, start_le, length_value, Ordered, ordered_ok}
 
 -- ---- the starts of the runs, and their lengths at the starts

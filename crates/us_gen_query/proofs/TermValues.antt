@@ -1,15 +1,13 @@
 -- The values of terms, and the columns that they read.
-use Rattle.std.proofs.Common.{◌≡◌, ℕ, zero, suc, ◌+◌, ◌*◌, ◌<◌, ◌≤◌, Bool, true, false, cond, eqb, ◌||◌, refl, sym, ap, ap₂, ◌∙◌, subst, arith, List, length, get_or, ℤ, pos, ◌+ℤ◌, ◌-ℤ◌, FitsSigned, w64}
+use Rattle.std.proofs.Common.{◌≡◌, ℕ, zero, suc, ◌+◌, ◌*◌, ◌<◌, ◌≤◌, Bool, true, false, cond, eqb, ◌||◌, refl, ap, ap₂, ◌∙◌, subst, arith, List, length, get_or, ℤ, pos, ◌+ℤ◌, ◌-ℤ◌, w64}
 use Rattle.std.specs.Int.{int_wrap, int_div_euclid, int_rem_euclid}
 use Rattle.std.proofs.lemmas.Bool.{or_left, or_right}
 use Rattle.std.proofs.lemmas.Bool.Decides.{nat_tests}
 use Rattle.std.proofs.lemmas.Int.{int_wrap_fits}
-use Rattle.us_code.specs.Run.{Env}
-use Rattle.us_code.specs.Run as run
 use Rattle.us_expr.specs.Tree.{Tree, node_count, RowIndex, ColIndex, Number, Variable, Sum, Difference, Quotient, Remainder}
-use Rattle.us_expr.specs.Value.{IsValid, IsPoint, IsWithin, value}
+use Rattle.us_expr.specs.Value.{IsValid, IsWithin, value}
 use Rattle.us_expr.proofs.Bounds.{sum_fits, difference_fits}
-use Rattle.us_gen_query.specs.Terms.{reads, reading, term_of, point, TermsHaveValues, ReadsAreFew}
+use Rattle.us_gen_query.specs.Terms.{reads, reading, point, TermsHaveValues, ReadsAreFew}
 
 same : (c : ℕ) → eqb c c ≡ true
 same c = grind (arith, nat_tests)

@@ -1,5 +1,5 @@
 -- Loops that count over the entries in the order of a value.
-use Rattle.std.specs.Prelude.{◌≡◌, ◌≢◌, ℕ, suc, ◌+◌, ◌-◌, ◌*◌, ◌^◌, ◌<◌, ◌≤◌, Bool, true, false, cond, eqb, List, [], ◌∷◌, map, length, slice_index_or, ℤ, pos, Some}
+use Rattle.std.specs.Prelude.{◌≡◌, ◌≢◌, ℕ, suc, ◌+◌, ◌-◌, ◌*◌, ◌^◌, ◌<◌, ◌≤◌, true, false, cond, eqb, List, [], ◌∷◌, map, length, slice_index_or, ℤ, pos, Some}
 use Rattle.us_code.specs.declared.program.Dim.TheVariants as dim
 use Rattle.us_code.specs.declared.program.Buf.{Buf}
 use Rattle.us_code.specs.declared.program.Buf.TheVariants as buf
@@ -8,11 +8,11 @@ use Rattle.us_code.specs.declared.pieces.Columns.{Columns}
 use Rattle.us_code.specs.Plain.{TermTree, Number, Reg, Add, Sub, Code, End, Load, Var, Put, Set, For, If, When, Order}
 use Rattle.us_code.specs.Run.{Env, State, exec, cells, all_long}
 use Rattle.us_code.specs.Sort.{ordered}
-use Rattle.us_code.specs.Typing.{Context, BufKind, Typed, sees_bufs, are_keys}
+use Rattle.us_code.specs.Typing.{Context, BufKind, Typed}
 use Rattle.us_gen.specs.Rooms.{FreshFrom}
 use Rattle.us_gen_query.specs.Filling.{words, Visible}
 use Rattle.us_query_loops.specs.Sorted.{place_at}
-use Rattle.us_query_loops.specs.Runs.{last_at, start_at, most_at, length_at, filled_at}
+use Rattle.us_query_loops.specs.Runs.{start_at, most_at, length_at, filled_at}
 
 -- a number that is the value of no expression
 abbrev pub no_value : ℕ

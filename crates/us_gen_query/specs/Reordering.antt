@@ -13,7 +13,6 @@ use Rattle.us_code.specs.Typing.{Context, BufKind, Typed, sees_dim}
 use Rattle.us_gen.specs.Rooms.{FreshFrom}
 use Rattle.us_gen_query.specs.Filling.{words, Visible}
 use Rattle.us_query_loops.specs.Ranks.{downwards}
-use Rattle.us_query_loops.specs.Sorted.{place_at}
 use Rattle.us_query_loops.specs.Runs.{filled_at}
 use Rattle.us_gen_query.specs.Counting.{IsZeros}
 

@@ -3,11 +3,10 @@ use Rattle.std.specs.Prelude.{◌≡◌, ◌≢◌, ℕ, zero, suc, ◌+◌, ◌
 use lib.Signed.{lt_z}
 use Rattle.us_code.specs.declared.program.Dim.TheVariants as dim
 use Rattle.us_code.specs.declared.program.Buf.TheVariants as buf
-use Rattle.us_code.specs.declared.program.CellKind.TheVariants as kind
 use Rattle.us_code.specs.declared.pieces.Columns.{Columns}
-use Rattle.us_code.specs.Plain.{TermTree, Number, Reg, Add, Code, End, Load, Var, Put, For, If}
+use Rattle.us_code.specs.Plain.{Number, Reg, Add, Code, End, Load, Var, Put, For, If}
 use Rattle.us_code.specs.Run.{Env, State, exec}
-use Rattle.us_code.specs.Typing.{Context, BufKind, is_some, Typed}
+use Rattle.us_code.specs.Typing.{Context, is_some, Typed}
 use Rattle.us_gen.specs.Rooms.{FreshFrom}
 use Rattle.us_gen.specs.Columns.{append, entry}
 use Rattle.us_gen_query.specs.declared.selecting.Test.{Test}

@@ -1,5 +1,5 @@
 -- Expressions as terms of loop code, over registers that hold the row, the column and the variables of an entry.
-use Rattle.std.specs.Prelude.{◌≡◌, ℕ, zero, suc, ◌+◌, ◌*◌, ◌≤◌, Bool, true, false, cond, eqb, ◌||◌, List, length, get_or, ℤ, pos}
+use Rattle.std.specs.Prelude.{◌≡◌, ℕ, zero, suc, ◌+◌, ◌*◌, ◌≤◌, Bool, true, false, cond, eqb, ◌||◌, List, get_or, ℤ, pos}
 use Rattle.us_code.specs.Plain.{TermTree, Reg, Add, Sub, Div, Rem}
 use Rattle.us_code.specs.Plain as plain
 use Rattle.us_code.specs.Run.{Env, value}

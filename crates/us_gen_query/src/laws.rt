@@ -2,7 +2,7 @@
 ghost use Rattle.us_gen_query.specs.Counting.{EnumerateTyped, Enumerates, SumTyped, Sums};
 ghost use Rattle.us_gen_query.specs.Filling.{FillTyped, Fills};
 ghost use Rattle.us_gen_query.specs.Reordering.{ReorderTyped, Reorders};
-ghost use Rattle.us_gen_query.specs.Scheduling.{ScheduleTyped};
+ghost use Rattle.us_gen_query.specs.Scheduling.{PassedAreWeights, RowsTyped, ScheduleTyped, Schedules, TablesRows};
 ghost use Rattle.us_gen_query.specs.Selecting.{CopiesChosen, CopyChosenTyped, CountChosenTyped, CountsChosen};
 ghost use Rattle.us_gen_query.specs.Terms.{ReadsAreFew, TermsHaveValues};
 
@@ -59,6 +59,27 @@ pub fn reorders()
 /// The loops that spread rows or columns over lanes are typed in every context with room.
 pub fn schedule_typed()
     ensures { ScheduleTyped }
+{}
+
+/// The loop that makes the table of the lanes is typed in every context with room.
+pub fn rows_typed()
+    ensures { RowsTyped }
+{}
+
+/// How many of the entries of the columns have an index is its weight in the matrix.
+pub fn passed_are_weights()
+    ensures { PassedAreWeights }
+{}
+
+/// The loops that spread rows or columns over lanes leave the lane and the slot of each index and of each entry's, and the
+/// most slots of a lane.
+pub fn schedules()
+    ensures { Schedules }
+{}
+
+/// The loop leaves the table of the lanes.
+pub fn tables_rows()
+    ensures { TablesRows }
 {}
 
 /// The loop that counts the entries that pass is typed in every context with room.

@@ -15,8 +15,8 @@ pub use counting::{enumerate, sum};
 pub use filling::fill;
 pub use laws::{
     copies_chosen, copy_chosen_typed, count_chosen_typed, counts_chosen, enumerate_typed,
-    enumerates, fill_typed, fills, reads_are_few, reorder_typed, reorders, schedule_typed,
-    sum_typed, sums, terms_have_values,
+    enumerates, fill_typed, fills, passed_are_weights, reads_are_few, reorder_typed, reorders,
+    rows_typed, schedule_typed, schedules, sum_typed, sums, tables_rows, terms_have_values,
 };
 pub use reordering::reorder;
 pub use scheduling::{ScheduleBuffers, rows, schedule};

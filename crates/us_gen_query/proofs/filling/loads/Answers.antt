@@ -1,5 +1,5 @@
-use Rattle.std.proofs.Common.{rules, ◌≡◌, ℕ, suc, ◌+◌, ap, ◌∙◌, arith}
-use Rattle.us_code.specs.Plain.{Code, tree_of}
+use Rattle.std.proofs.Common.{rules, ◌≡◌, suc, ◌+◌, ap, ◌∙◌, arith}
+use Rattle.us_code.specs.Plain.{tree_of}
 use Rattle.us_expr.specs.Tree.{tree}
 use Rattle.us_gen_query.specs.Filling.{load_more, loads}
 use Rattle.us_gen_query.proofs.filling.loads.Goals as goal

@@ -1,0 +1,12 @@
+pub mod Registers
+pub mod Standing
+pub mod Lines
+pub mod Keeping
+pub mod Counting
+pub mod Building
+pub mod CountingFits
+pub mod BuildingFits
+pub mod Enough
+pub mod Leaving
+pub mod Rows
+pub mod Sharing

@@ -1,0 +1,14 @@
+pub mod Makes
+pub mod Keys
+pub mod Blocks
+pub mod PhaseFits
+pub mod ScheduleFits
+pub mod QueryFits
+pub mod PhaseRuns
+pub mod ScheduleRuns
+pub mod QueryRuns
+pub mod ListFits
+pub mod ListRuns
+pub mod SelectFits
+pub mod SelectRuns
+pub mod Apart

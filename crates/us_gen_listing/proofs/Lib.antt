@@ -1,0 +1,9 @@
+pub mod LoopCosts
+pub mod Lengths
+pub mod Extents
+pub mod PartCosts
+pub mod AllCosts
+pub mod FormatListed
+pub mod FormatTyped
+pub mod PartsOpened
+pub mod PieceMade

@@ -1,0 +1,7 @@
+pub mod Cells
+pub mod Last
+pub mod Filling
+pub mod Looping
+pub mod Building
+pub mod Typed
+pub mod Making

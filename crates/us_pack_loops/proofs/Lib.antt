@@ -1,0 +1,6 @@
+pub mod Entries
+pub mod Mixed
+pub mod Columns
+pub mod Pieces
+pub mod Packing
+pub mod Whole
