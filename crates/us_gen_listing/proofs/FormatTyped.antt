@@ -1,6 +1,5 @@
 -- Both phases are typed, and what is visible behind them.
-use Rattle.std.proofs.Common.{◌≡◌, ◌≢◌, ℕ, ◌+◌, ◌<◌, ◌≤◌, List, [], ◌∷◌, true, false, refl, sym, ap, ◌∙◌, inr, arith, Option, Some, None}
-use Rattle.us_decl.specs.Declares.{Declared, IsValid}
+use Rattle.std.proofs.Common.{◌≡◌, ℕ, List, [], ◌∷◌, true, false, refl, sym, ap, ◌∙◌, inr, arith, Option, Some}
 use Rattle.us_judge.specs.Views.{declaration_of}
 use Rattle.us_judge.proofs.Valid.{queries-valid}
 use Rattle.us_code.specs.declared.program.CellKind.TheVariants as kind
@@ -8,25 +7,23 @@ use Rattle.us_code.specs.declared.program.Dim.TheVariants as dim
 use Rattle.us_code.specs.declared.pieces.Columns.{Columns}
 use Rattle.us_code.specs.Plain.{Code, End, Let, Load, Var, Put, Set, For, Span, If, When, Order}
 use Rattle.us_code.specs.Run.{put}
-use Rattle.us_code.specs.Typing.{Context, BufKind, Form, is_some, with_reg, with_bufs, kind_of, cell_of, outer, after_phase, after_phases}
+use Rattle.us_code.specs.Typing.{Context, BufKind, Form, is_some, with_reg, with_bufs, kind_of, cell_of, outer, after_phase}
 use Rattle.us_code_laws.proofs.Sequence.{put_same, put_other}
 use Rattle.us_gen.specs.Rooms.{FreshFrom}
-use Rattle.us_gen_places.specs.declared.start.PartStart.{PartStart}
+use Rattle.us_gen_counting.specs.Rooms.{SeesColumns}
 use Rattle.us_gen_unpack.specs.declared.listing.PartWalk.{PartWalk}
 use Rattle.us_gen_unpack.specs.Listing.{listing, listing_phase, words}
 use Rattle.us_gen_unpack.specs.Rooms.{SeesParts, AreNew as AreNewColumns}
 use Rattle.us_gen_unpack.specs.Runs.{AreApart}
-use Rattle.us_gen_opening.specs.declared.parts.Opening.{Opening}
 use Rattle.us_gen_opening.specs.Dims.{AreNew, DimsSeen}
 use Rattle.us_gen_opening.specs.Opening.{opening_phase, all_lines}
 use Rattle.us_gen_opening.specs.Rooms.{SeesOpenings}
-use Rattle.us_gen_opening.specs.Unpacking.{unpacking}
 use Rattle.us_gen_opening.proofs.BothPhases.{unpack_is_typed}
 use Rattle.us_gen_opening.proofs.OpeningFits.{opening_is_typed}
 use Rattle.us_gen_opening.proofs.PartDims.{openings_tell}
 use Rattle.us_gen_opening.proofs.PartSources.{openings_stand}
 use Rattle.us_gen_parts.proofs.Visible.{walks-seen}
-use Rattle.us_gen_listing.specs.Unpack.{start_at, SeesColumns, FormatIsTyped}
+use Rattle.us_gen_listing.specs.Unpack.{start_at, FormatIsTyped}
 
 -- a block changes registers alone
 record KeepsNames (g h : Context) : Type 0 where

@@ -5,5 +5,8 @@ pub mod PartCosts
 pub mod AllCosts
 pub mod FormatListed
 pub mod FormatTyped
+pub mod NumbersFit
+pub mod PartsFit
 pub mod PartsOpened
+pub mod Behind
 pub mod PieceMade

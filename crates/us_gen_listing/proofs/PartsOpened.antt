@@ -1,20 +1,19 @@
 -- Parts of which it is known what the phase of dims needs.
-use Rattle.std.proofs.Common.{◌≡◌, ℕ, suc, ◌+◌, ◌*◌, ◌<◌, ◌≤◌, List, [], ◌∷◌, ◌++◌, length, drop, get_or, refl, sym, ap, subst, ◌∙◌, inl, inr, arith, add-one, append_assoc, All}
+use Rattle.std.proofs.Common.{◌≡◌, ℕ, suc, ◌+◌, ◌*◌, ◌<◌, ◌≤◌, List, [], ◌∷◌, ◌++◌, length, drop, get_or, sym, ap, subst, ◌∙◌, arith, add-one, append_assoc}
 use Rattle.std.proofs.Math.Seq.{drop-cons}
 use Rattle.std.proofs.Math.ListN.{drop_of_length-le}
 use Rattle.std.proofs.lemmas.List.{append-nil}
 use Rattle.us_format.specs.Matrix.{Shape}
 use Rattle.us_format.specs.Declaration.{Part}
-use Rattle.us_format.specs.Reading.{buffer_count, extent_count}
+use Rattle.us_format.specs.Reading.{buffer_count}
 use Rattle.us_gen_recover.specs.declared.places.Table.{Table}
-use Rattle.us_gen_walk.specs.declared.places.Places.{Places}
 use Rattle.us_gen_places.specs.declared.start.PartStart.{PartStart}
 use Rattle.us_gen_places.specs.Dims.{next_start}
 use Rattle.us_gen_unpack.specs.declared.listing.PartWalk.{PartWalk}
 use Rattle.us_gen_opening.specs.declared.parts.Opening.{Opening}
 use Rattle.us_gen_opening.specs.Opening.{extents_from}
-use Rattle.us_gen_opening.specs.Tells.{IsOpeningOf, AreOpeningsOf}
-use Rattle.us_gen_parts.specs.Walks.{IsWalkOf, AreWalksOf}
+use Rattle.us_gen_opening.specs.Tells.{AreOpeningsOf}
+use Rattle.us_gen_parts.specs.Walks.{AreWalksOf}
 use Rattle.us_gen_listing.specs.Unpack.{OpenedFrom, IsOpenedMore}
 
 abbrev pub no_part : Part

@@ -1,5 +1,5 @@
 -- The phases that list the entries of a format's buffers in columns.
-use Rattle.std.specs.Prelude.{◌≡◌, ℕ, ◌+◌, ◌*◌, ◌^◌, ◌<◌, ◌≤◌, List, [], ◌∷◌, ◌++◌, map, length, ℤ, pos, Some, None, IsTrue, Contains}
+use Rattle.std.specs.Prelude.{◌≡◌, ℕ, ◌+◌, ◌*◌, ◌^◌, ◌<◌, ◌≤◌, List, [], ◌∷◌, ◌++◌, map, length, ℤ, pos, None, Contains}
 use Rattle.std.specs.List.{sum_by}
 use Rattle.us_format.specs.Lists.{nth, cell}
 use Rattle.us_format.specs.Matrix.{Shape, Entry, IsMatrixOf}
@@ -9,15 +9,14 @@ use Rattle.us_format.specs.Reading.{buffer_count, limit, total_count}
 use Rattle.us_decl.specs.Declares.{Declared, IsValid}
 use Rattle.us_judge.specs.Acceptance.{first_refusal}
 use Rattle.us_judge.specs.Views.{declaration_of}
-use Rattle.us_code.specs.declared.program.CellKind.TheVariants as kind
-use Rattle.us_code.specs.declared.program.Dim.TheVariants as dim
 use Rattle.us_code.specs.declared.pieces.Columns.{Columns}
 use Rattle.us_code.specs.declared.pieces.ListPiece.{ListPiece}
 use Rattle.us_code.specs.Plain.{PhaseTree, phase_tree}
 use Rattle.us_code.specs.Runs.{World, phases}
-use Rattle.us_code.specs.Typing.{Context, sees_dim, TypedPhases, after_phases}
+use Rattle.us_code.specs.Typing.{Context, TypedPhases, after_phases}
 use Rattle.us_gen.specs.Goes.{Leads}
 use Rattle.us_gen.specs.Rooms.{FreshFrom}
+use Rattle.us_gen_counting.specs.Rooms.{RoomFrom, SeesColumns, Fit}
 use Rattle.us_gen_walk.specs.declared.places.Places.{Places}
 use Rattle.us_gen_walk.specs.Runs.{rank_of}
 use Rattle.us_gen_places.specs.declared.start.PartStart.{PartStart}
@@ -29,6 +28,8 @@ use Rattle.us_gen_opening.specs.Opening.{extents_from}
 use Rattle.us_gen_opening.specs.Tells.{AreOpeningsOf}
 use Rattle.us_gen_opening.specs.Unpacking.{unpacking}
 use Rattle.us_gen_parts.specs.Walks.{AreWalksOf}
+use Rattle.us_limits.specs.Small.{KeepText}
+use Rattle.us_limits.specs.Orders.{HaveNoOrder}
 
 -- the sources from 0 on, and the dims from n on
 abbrev pub start_at : ℕ → PartStart
@@ -84,14 +85,7 @@ pub record IsFreeFrom (g : Context) (low : ℕ) : Type 0 where
   pub bufs : (b : ℕ) → low ≤ b → g.bufs b ≡ None
   pub dims : (x : ℕ) → low ≤ x → g.dims x ≡ None
 
--- the columns are words, as many as the dim
-pub record SeesColumns (g : Context) (c : Columns) : Type 0 where
-  pub count : IsTrue (sees_dim g (dim.Name c.count))
-  pub i : g.bufs c.i ≡ Some record { len = dim.Name c.count; cell = kind.Word }
-  pub j : g.bufs c.j ≡ Some record { len = dim.Name c.count; cell = kind.Word }
-  pub v : g.bufs c.v ≡ Some record { len = dim.Name c.count; cell = kind.Word }
-
--- the phases are typed, and behind them the columns are visible
+-- the phases are typed, and behind them the columns are visible: words, as many as the dim
 pub record IsTypedTo (g : Context) (ps : List PhaseTree) (c : Columns) : Type 0 where
   pub typed : TypedPhases g ps
   pub columns : SeesColumns (after_phases g ps) c
@@ -124,7 +118,17 @@ pub record IsOpenedMore (n : ℕ) (w : Places) (old new : List Opening) : Type 0
   pub values : opening.values ≡ w.values
   pub behind : new ≡ old ++ opening ∷ []
 
--- on the buffers of every matrix within the limit the phases of a piece fill its columns, and they are typed behind all code with lower numbers
+-- how many numbers the phases of a piece take
+abbrev pub unpacking_room : ℕ
+unpacking_room = 9216
+
+-- a number that they take
+pub record IsTaken (low x : ℕ) : Type 0 where
+  pub from : low ≤ x
+  pub to : x < low + unpacking_room
+
+-- on the buffers of every matrix within the limit the phases of a piece fill its columns. They are typed behind all code with lower numbers, with numbers
+-- from low on, keep the limits of a text, and have no `order`
 pub record Unpacks (s : Shape) (d : Declared) (low : ℕ) (piece : ListPiece) : Type 0 where
   pub lists :
       (w : World) (m : List Entry) → IsMatrixOf s m → size s (declaration_of d) m ≤ limit
@@ -133,5 +137,8 @@ pub record Unpacks (s : Shape) (d : Declared) (low : ℕ) (piece : ListPiece) : 
       → Leads low (64 * ((1 + level_count (declaration_of d) + query_count (declaration_of d)) * (size s (declaration_of d) m + 1))) w
       (phases (map phase_tree piece.phases) w) (HoldsEntries s (declaration_of d) m piece.columns)
   pub typed : (g : Context) → total_count (declaration_of d) ≤ g.sources → IsFreeFrom g low → IsTypedTo g (map phase_tree piece.phases) piece.columns
-  pub columns : (low ≤ piece.columns.count) × (low ≤ piece.columns.i) × (low ≤ piece.columns.j) × (low ≤ piece.columns.v)
+  pub fits : (g : Context) → total_count (declaration_of d) ≤ g.sources → RoomFrom g low → Fit g (map phase_tree piece.phases) low (low + unpacking_room)
+  pub text : KeepText 16384 (map phase_tree piece.phases)
+  pub unsorted : HaveNoOrder (map phase_tree piece.phases)
+  pub columns : IsTaken low piece.columns.count × IsTaken low piece.columns.i × IsTaken low piece.columns.j × IsTaken low piece.columns.v
   pub no_vars : piece.columns.vars.items ≡ []

@@ -32,10 +32,10 @@ pub(crate) fn openings_of(
     walks: &[PartWalk],
 ) -> Result<Vec<Opening>, AllocError>
     requires parts { length walks.now ≡ length (declaration_of format.now).parts }
+    requires few { length walks.now ≤ 4 }
     requires tables { All (λ x. length x.places.tables.items ≤ 16) walks.now }
     ensures { IfOk result (λ os. OpenedFrom 0 (declaration_of format.now).parts walks.now os.items) }
 {
-    let _ = format.first_part();
     let mut openings = Vec::new(alloc);
     let mut source = 0;
     for (k, walk) in walks.iter().enumerate() {

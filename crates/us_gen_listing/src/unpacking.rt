@@ -7,7 +7,7 @@ ghost use Rattle.us_matrix.specs.Map.{IsSide};
 ghost use Rattle.us_gen_opening.specs.Opening.{rooms as dim_rooms};
 ghost use Rattle.us_gen_opening.specs.Unpacking.{unpacking};
 ghost use Rattle.us_gen_unpack.specs.Listing.{rooms};
-ghost use Rattle.us_gen_listing.specs.Unpack.{Unpacks};
+ghost use Rattle.us_gen_listing.specs.Unpack.{Unpacks, unpacking_room};
 
 use crate::openings::openings_of;
 use arrayvec::ArrayVec;
@@ -71,6 +71,7 @@ fn piece_from(
     requires cols { IsSide shape.cols }
     ensures { IfOk result (λ p. Unpacks (plain_shape shape) format.now first p) }
 {
+    // Its contract tells that the format is valid.
     let _ = format.first_part();
     let walks = part_walks(alloc, format, shape, first)?;
     let loops = walks.as_slice();
@@ -82,18 +83,19 @@ fn piece_from(
 }
 
 /// Two phases that list the entries of a container of this format and shape in new columns, part by part and by position.
-/// The sources are the buffers of the format. It fails only for want of memory.
+/// The sources are the buffers of the format. The phases take the 9216 numbers from the next one on, have at most 16384
+/// items, and sort nothing. It fails only for want of memory.
 pub fn unpack(
     alloc: Global,
     format: &Format,
     shape: Shape,
     fresh: &mut Fresh,
 ) -> Result<ListPiece, AllocError>
-    requires room { fresh.old + 65536 < 2 ^ 30 }
+    requires room { fresh.old < 2 ^ 30 }
     requires rows { IsSide shape.rows }
     requires cols { IsSide shape.cols }
     ensures piece { IfOk result (λ p. Unpacks (plain_shape shape) format.now fresh.old p) }
-    ensures taken { OnOk result (fresh.new ≡ fresh.old + 9216) }
+    ensures taken { OnOk result (fresh.new ≡ fresh.old + unpacking_room) }
     ensures unchanged { OnErr result (fresh.new ≡ fresh.old) }
 {
     let first = fresh.next();

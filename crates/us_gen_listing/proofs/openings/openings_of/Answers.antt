@@ -1,9 +1,8 @@
-use Rattle.std.proofs.Common.{◌≡◌, ◌<◌, ◌≤◌, ◌+◌, ◌-◌, ℕ, length, sym, ap, subst, ◌∙◌, arith}
+use Rattle.std.proofs.Common.{◌≡◌, ◌<◌, ◌≤◌, ◌+◌, ◌-◌, length, sym, ap, subst, ◌∙◌, arith}
 use Rattle.std.proofs.lemmas.List.{get_or_default}
 use Rattle.us_format.specs.Reading.{buffer_count}
 use Rattle.us_judge.specs.Format.{part_at}
 use Rattle.us_judge.specs.Views.{declaration_of}
-use Rattle.us_judge.proofs.Valid.{short-valid}
 use Rattle.us_gen_unpack.specs.declared.listing.PartWalk.{PartWalk}
 use Rattle.us_gen_listing.proofs.PartsOpened.{passed-none, passed-more, passed-all, no_part}
 use Rattle.us_gen_listing.proofs.openings.openings_of.Goals as goal
@@ -21,8 +20,7 @@ loop-k-preserved c =
 
 pub push_opening-requires-clause-source : goal.push_opening-requires-clause-source
 push_opening-requires-clause-source c =
-    let few = (short-valid c.args.format.now c.first_part.ensures.valid).few in
-    omega (arith, few, c.loop-k.invariant.few, c.loop-k-test.true, c.requires.parts)
+    omega (arith, c.requires.few, c.loop-k.invariant.few, c.loop-k-test.true)
 
 pub push_opening-requires-clause-tables : goal.push_opening-requires-clause-tables
 push_opening-requires-clause-tables c =
@@ -33,8 +31,7 @@ part_buffers-count-requires-clause-part c = omega (arith, c.loop-k-test.true, c.
 
 pub overflow_add-source : goal.overflow_add-source
 overflow_add-source c =
-    let few = (short-valid c.args.format.now c.first_part.ensures.valid).few in
-    omega (arith, few, c.loop-k.invariant.few, c.loop-k-test.true, c.requires.parts, c.part_buffers-count.ensures.few)
+    omega (arith, c.requires.few, c.loop-k.invariant.few, c.loop-k-test.true, c.part_buffers-count.ensures.few)
 
 pub returns : goal.returns
 returns c =

@@ -1,5 +1,4 @@
 use Rattle.std.proofs.Common.{◌≡◌, ◌≤◌, ◌*◌, List, length, sym, ap, subst, ◌∙◌, arith, All}
-use Rattle.us_format.specs.Declaration.{Part}
 use Rattle.us_format.specs.Program.{plain_shape}
 use Rattle.us_judge.specs.Views.{declaration_of}
 use Rattle.us_judge.proofs.Valid.{queries-valid, short-valid}
@@ -18,6 +17,15 @@ pub openings_of-requires-clause-parts : goal.openings_of-requires-clause-parts
 openings_of-requires-clause-parts c =
     let same : length c.as_slice-loops.result.now ≡ length c.in_ok-walks.walks.items = ap (λ (xs : List PartWalk). length xs) c.as_slice-loops.ensures.value in
     same ∙ walks-number (start_at c.args.first) (plain_shape c.args.shape) (declaration_of c.args.format.now).parts c.in_ok-walks.walks.items c.in_ok-walks.ensures
+
+pub openings_of-requires-clause-few : goal.openings_of-requires-clause-few
+openings_of-requires-clause-few c =
+    omega (
+      arith,
+      ap (λ (xs : List PartWalk). length xs) c.as_slice-loops.ensures.value,
+      walks-number (start_at c.args.first) (plain_shape c.args.shape) (declaration_of c.args.format.now).parts c.in_ok-walks.walks.items c.in_ok-walks.ensures,
+      (short-valid c.args.format.now c.first_part.ensures.valid).few,
+    )
 
 pub openings_of-requires-clause-tables : goal.openings_of-requires-clause-tables
 openings_of-requires-clause-tables c =
@@ -44,6 +52,6 @@ returns c =
     subst (λ (xs : List PartWalk). AreWalksOf (start_at c.args.first) (plain_shape c.args.shape) (declaration_of c.args.format.now).parts xs) (sym c.as_slice-loops.ensures.value) c.in_ok-walks.ensures in
     let opened : OpenedFrom 0 (declaration_of c.args.format.now).parts c.as_slice-loops.result.now c.as_slice-dims.result.now =
     subst (λ (os : List Opening). OpenedFrom 0 (declaration_of c.args.format.now).parts c.as_slice-loops.result.now os) (sym c.as_slice-dims.ensures.value) c.in_ok-openings.ensures in
-    unpacks (plain_shape c.args.shape) c.args.format.now c.args.first _ c.as_slice-dims.result.now c.as_slice-loops.result.now c.first_part.ensures.valid c.first_part.ensures.accepted c.requires.rows.high c.requires.cols.high
+    unpacks (plain_shape c.args.shape) c.args.format.now c.args.first _ c.as_slice-dims.result.now c.as_slice-loops.result.now c.first_part.ensures.valid c.first_part.ensures.accepted c.requires.first c.requires.rows.high c.requires.cols.high
     (record { openings = opened-is (start_at c.args.first) (plain_shape c.args.shape) (declaration_of c.args.format.now).parts c.as_slice-loops.result.now c.as_slice-dims.result.now walks opened; walks = walks })
     c.in_ok-phases.ensures c.columns_behind-columns.ensures.count c.columns_behind-columns.ensures.i c.columns_behind-columns.ensures.j c.columns_behind-columns.ensures.v c.columns_behind-columns.ensures.vars

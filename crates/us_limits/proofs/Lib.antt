@@ -1,0 +1,5 @@
+pub mod Blocks
+pub mod Nests
+pub mod Orders
+pub mod Phases
+pub mod Terms

@@ -1,0 +1,4 @@
+pub mod Laws
+pub mod Nests
+pub mod Orders
+pub mod Small
