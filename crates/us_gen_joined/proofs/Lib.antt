@@ -1,0 +1,4 @@
+pub mod Ascending
+pub mod Joined
+pub mod Ordered
+pub mod Permuted

@@ -1,0 +1,4 @@
+pub mod Accepted
+pub mod Chain
+pub mod Meaning
+pub mod Plain
