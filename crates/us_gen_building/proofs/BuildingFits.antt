@@ -41,7 +41,7 @@ pub keeps_sources : (ms : List Make) (g : Context) → (with_bufs g ms).sources 
 keeps_sources [] g = refl
 keeps_sources (m ∷ ms) g = keeps_sources ms (with_buf g m)
 
-keeps_regs : (ms : List Make) (g : Context) → (with_bufs g ms).regs ≡ g.regs
+pub keeps_regs : (ms : List Make) (g : Context) → (with_bufs g ms).regs ≡ g.regs
 keeps_regs [] g = refl
 keeps_regs (m ∷ ms) g = keeps_regs ms (with_buf g m)
 
@@ -130,11 +130,11 @@ role_sees Listed last ranked t g p c = (p refl, c)
 role_sees Slot last true t g p c = c
 role_sees Slot last false t g p c = c
 
-values_see : (ranked : Bool) (t : LevelTree) (g : Context) → sees_dim g t.crd_length ≡ true → SeesOf g (slot_role ranked) t
+pub values_see : (ranked : Bool) (t : LevelTree) (g : Context) → sees_dim g t.crd_length ≡ true → SeesOf g (slot_role ranked) t
 values_see true t g c = c
 values_see false t g c = c
 
-above_seen : (g : Context) (count : ℕ) (ls : List PartLevel) (top : Bool) (above : Dim) (name : ℕ) → SeesDims g count ls top above name → sees_dim g above ≡ true
+pub above_seen : (g : Context) (count : ℕ) (ls : List PartLevel) (top : Bool) (above : Dim) (name : ℕ) → SeesDims g count ls top above name → sees_dim g above ≡ true
 above_seen g count [] top above name s = s
 above_seen g count (l ∷ ls) top above name s = s.0
 
@@ -159,23 +159,23 @@ role_fit Listed last ranked t g d h m = (record { sees = h.pos refl; buffer = m.
 role_fit Slot last true t g d h m = (record { sees = h.crd; buffer = m }, h.within refl)
 role_fit Slot last false t g d h m = record { sees = h.crd; buffer = m }
 
-values_fit : (ranked : Bool) (t : LevelTree) (g : Context) (d : Dim) → sees_dim g t.crd_length ≡ true → (ranked ≡ true → fits (kind.Below d) t.crd_length ≡ true) → MadeOf (slot_role ranked) t g.bufs → LevelFits g d (slot_role ranked) t
+pub values_fit : (ranked : Bool) (t : LevelTree) (g : Context) (d : Dim) → sees_dim g t.crd_length ≡ true → (ranked ≡ true → fits (kind.Below d) t.crd_length ≡ true) → MadeOf (slot_role ranked) t g.bufs → LevelFits g d (slot_role ranked) t
 values_fit true t g d c w m = (record { sees = c; buffer = m }, w refl)
 values_fit false t g d c w m = record { sees = c; buffer = m }
 
 -- where positions are ranks, there are as many as entries
-ranks_are : (k : Kind) (last ranked : Bool) (count name : ℕ) (above : Dim) → (ranked ≡ true → above ≡ dim.Name count) → ranks_below k last ranked ≡ true → positions k last count above name ≡ dim.Name count
+pub ranks_are : (k : Kind) (last ranked : Bool) (count name : ℕ) (above : Dim) → (ranked ≡ true → above ≡ dim.Name count) → ranks_below k last ranked ≡ true → positions k last count above name ≡ dim.Name count
 ranks_are Full last ranked count name above h e = absurd cc
 ranks_are Compressed true ranked count name above h e = refl
 ranks_are Compressed false ranked count name above h e = absurd cc
 ranks_are Listed last ranked count name above h e = refl
 ranks_are Slot last ranked count name above h e = h e
 
-starts_two : (top : Bool) (name : ℕ) → top ≡ true → starts top name ≡ dim.Number 2
+pub starts_two : (top : Bool) (name : ℕ) → top ≡ true → starts top name ≡ dim.Number 2
 starts_two true name e = refl
 starts_two false name e = absurd cc
 
-rank_fits : (count : ℕ) (d : Dim) → d ≡ dim.Name count → fits (kind.Below (dim.Name count)) d ≡ true
+pub rank_fits : (count : ℕ) (d : Dim) → d ≡ dim.Name count → fits (kind.Below (dim.Name count)) d ≡ true
 rank_fits count d e = ap (fits (kind.Below (dim.Name count))) e ∙ fits_itself (dim.Name count)
 
 built_fit : (g h : Context) (count : ℕ) (ls : List PartLevel) (x : Descent) (more : ℕ) → h.dims ≡ g.dims → h.sources ≡ g.sources → SizesSeen g ls → SeesDims g count ls x.is_top x.above x.dims → (x.is_rank ≡ true → x.above ≡ dim.Name count)
@@ -207,11 +207,11 @@ record BuildingRoom (g : Context) (x : PartLoops) (f : ℕ) : Type 0 where
   own : OwnColumns g.bufs (dim.Name x.count) f (all_columns x)
   dims : SeesDims g x.count x.levels.items true (dim.Number 1) (dims_from f (length x.levels.items))
 
-order_kept : (keys : Option ℕ) (f : ℕ) (d : Dim) (bufs other : ℕ → Option BufKind) → other f ≡ bufs f → OrderFits bufs d (order_of keys f) → OrderFits other d (order_of keys f)
+pub order_kept : (keys : Option ℕ) (f : ℕ) (d : Dim) (bufs other : ℕ → Option BufKind) → other f ≡ bufs f → OrderFits bufs d (order_of keys f) → OrderFits other d (order_of keys f)
 order_kept None f d bufs other e o = tt
 order_kept (Some k) f d bufs other e o = e ∙ o
 
-own_kept : (bufs other : ℕ → Option BufKind) (d : Dim) (f lo : ℕ) (cs : List ℕ) → ((b : ℕ) → b < lo → other b ≡ bufs b) → ((b : ℕ) → lo ≤ b → bufs b ≡ None) → OwnColumns bufs d f cs → OwnColumns other d f cs
+pub own_kept : (bufs other : ℕ → Option BufKind) (d : Dim) (f lo : ℕ) (cs : List ℕ) → ((b : ℕ) → b < lo → other b ≡ bufs b) → ((b : ℕ) → lo ≤ b → bufs b ≡ None) → OwnColumns bufs d f cs → OwnColumns other d f cs
 own_kept bufs other d f lo [] same none c = tt
 own_kept bufs other d f lo (b ∷ bs) same none c = (case (cases_lt b lo), c.1, own_kept bufs other d f lo bs same none c.2)
   where
@@ -219,11 +219,11 @@ own_kept bufs other d f lo (b ∷ bs) same none c = (case (cases_lt b lo), c.1, 
     case (inl h) = same b h ∙ c.0
     case (inr h) = none_some (bufs b) (record { len = d; cell = kind.Word }) (none b h) c.0
 
-rise_lower : (ls : List LevelTree) (lo lower n : ℕ) → lower ≤ lo → NamesRise lo ls n → NamesRise lower ls n
+pub rise_lower : (ls : List LevelTree) (lo lower n : ℕ) → lower ≤ lo → NamesRise lo ls n → NamesRise lower ls n
 rise_lower [] lo lower n le h = omega (arith, le, h)
 rise_lower (l ∷ ls) lo lower n le h = (omega (arith, le, h.0), h.1)
 
-dims_same : (g h : Context) (count : ℕ) (ls : List PartLevel) (top : Bool) (above : Dim) (name : ℕ) → h.dims ≡ g.dims → h.sources ≡ g.sources → SeesDims g count ls top above name → SeesDims h count ls top above name
+pub dims_same : (g h : Context) (count : ℕ) (ls : List PartLevel) (top : Bool) (above : Dim) (name : ℕ) → h.dims ≡ g.dims → h.sources ≡ g.sources → SeesDims g count ls top above name → SeesDims h count ls top above name
 dims_same g h count [] top above name e q s = sees_same g h above e q s
 dims_same g h count (l ∷ ls) top above name e q s = (
   sees_same g h above e q s.0,

@@ -268,7 +268,7 @@ nodes_seen (l ∷ ls) first r f o = level_seen l.kind (are_last ls) l.size l.col
 
 -- ---- dims
 
-form_sees : (g : Context) (n : ℕ) (o : Form) (d : Dim) → sees_dim g d ≡ true → sees_dim (with_form g n o) d ≡ true
+pub form_sees : (g : Context) (n : ℕ) (o : Form) (d : Dim) → sees_dim g d ≡ true → sees_dim (with_form g n o) d ≡ true
 form_sees g n o (dim.Number k) s = refl
 form_sees g n o (dim.Len k) s = s
 form_sees g n o (dim.Name d) s = case (cases_eq n d)
@@ -277,7 +277,7 @@ form_sees g n o (dim.Name d) s = case (cases_eq n d)
     case (inl e) = ap is_some (subst (λ (q : ℕ). put g.dims n (Some o) q ≡ Some o) e (put_same g.dims n (Some o)))
     case (inr e) = ap is_some (put_other g.dims n (Some o) d e) ∙ s
 
-form_new : (g : Context) (n : ℕ) (o : Form) → sees_dim (with_form g n o) (dim.Name n) ≡ true
+pub form_new : (g : Context) (n : ℕ) (o : Form) → sees_dim (with_form g n o) (dim.Name n) ≡ true
 form_new g n o = ap is_some (put_same g.dims n (Some o))
 
 pub sizes_more : (g h : Context) (ls : List PartLevel) → ((d : Dim) → sees_dim g d ≡ true → sees_dim h d ≡ true) → SizesSeen g ls → SizesSeen h ls

@@ -26,12 +26,12 @@ use Rattle.us_gen_building.proofs.BuildingFits.{own, own_is, MadeOf, AllMade, ke
 
 -- ---- a block changes registers alone
 
-record SameRest (g h : Context) : Type 0 where
+pub record SameRest (g h : Context) : Type 0 where
   pub bufs : h.bufs ≡ g.bufs
   pub dims : h.dims ≡ g.dims
   pub sources : h.sources ≡ g.sources
 
-outer_rest : (g : Context) (c : Code) → SameRest g (outer g c)
+pub outer_rest : (g : Context) (c : Code) → SameRest g (outer g c)
 outer_rest g End = record { bufs = refl; dims = refl; sources = refl }
 outer_rest g (Let r e rest) = let s = outer_rest (with_reg g r false (kind_of g e)) rest in record { bufs = s.bufs; dims = s.dims; sources = s.sources }
 outer_rest g (Load r b at rest) = let s = outer_rest (with_reg g r false (cell_of g b)) rest in record { bufs = s.bufs; dims = s.dims; sources = s.sources }
@@ -49,7 +49,7 @@ line_bufs g (Of d e) = refl
 line_bufs g (Product d a b) = refl
 line_bufs g (Successor d a) = refl
 
-lines_bufs : (ls : List LineTree) (g : Context) → (with_lines g ls).bufs ≡ g.bufs
+pub lines_bufs : (ls : List LineTree) (g : Context) → (with_lines g ls).bufs ≡ g.bufs
 lines_bufs [] g = refl
 lines_bufs (l ∷ ls) g = lines_bufs ls (with_line g l) ∙ line_bufs g l
 
@@ -58,7 +58,7 @@ line_sources g (Of d e) = refl
 line_sources g (Product d a b) = refl
 line_sources g (Successor d a) = refl
 
-lines_sources : (ls : List LineTree) (g : Context) → (with_lines g ls).sources ≡ g.sources
+pub lines_sources : (ls : List LineTree) (g : Context) → (with_lines g ls).sources ≡ g.sources
 lines_sources [] g = refl
 lines_sources (l ∷ ls) g = lines_sources ls (with_line g l) ∙ line_sources g l
 
@@ -80,7 +80,7 @@ level_other Compressed false size x d rest g o e = start_other x.is_top x d (Of 
 level_other Listed last size x d rest g o e = start_other x.is_top x d rest g o e
 level_other Slot last size x d rest g o e = e g
 
-lines_other : (count : ℕ) (ls : List PartLevel) (x : Descent) (d : ℕ) (g : Context) → (x.dims ≤ d → x.dims + 2 * length ls ≤ d) → (with_lines g (dim_lines count ls x)).dims d ≡ g.dims d
+pub lines_other : (count : ℕ) (ls : List PartLevel) (x : Descent) (d : ℕ) (g : Context) → (x.dims ≤ d → x.dims + 2 * length ls ≤ d) → (with_lines g (dim_lines count ls x)).dims d ≡ g.dims d
 lines_other count [] x d g o = refl
 lines_other count (l ∷ ls) x d g o =
     level_other l.kind (are_last ls) l.size x d (dim_lines count ls (deeper count l (are_last ls) x)) g record { starts = λ e. let z = o (omega (arith, e)) in omega (arith, z, e); number = λ e. let z = o (omega (arith, e)) in omega (arith, z, e) }
@@ -98,7 +98,7 @@ own_above role.Counted l g b le = refl
 own_above role.Marked l g b le = put_other g.bufs l.first _ b (λ e. omega (arith, e, le))
 own_above role.Kept l g b le = refl
 
-made_above : (ls : List LevelTree) (lo n : ℕ) (g : Context) (b : ℕ) → NamesRise lo ls n → n ≤ b → (with_bufs g (makes ls)).bufs b ≡ g.bufs b
+pub made_above : (ls : List LevelTree) (lo n : ℕ) (g : Context) (b : ℕ) → NamesRise lo ls n → n ≤ b → (with_bufs g (makes ls)).bufs b ≡ g.bufs b
 made_above [] lo n g b h le = refl
 made_above (l ∷ ls) lo n g b h le =
     ap (λ (k : Context). k.bufs b) (own_is l.role l g (makes ls)) ∙ (made_above ls (l.first + 4) n (own l.role l g) b h.1 le ∙ own_above l.role l g b (omega (arith, rise_up ls (l.first + 4) n h.1, le)))
@@ -115,22 +115,22 @@ level_seen k role.Counted l rest m s = s
 level_seen k role.Marked l rest m s = both_true _ _ (ap is_some m) s
 level_seen k role.Kept l rest m s = s
 
-all_seen : (k : Context) (ls : List LevelTree) → AllMade ls k.bufs → sees_all k (all_buffers ls) ≡ true
+pub all_seen : (k : Context) (ls : List LevelTree) → AllMade ls k.bufs → sees_all k (all_buffers ls) ≡ true
 all_seen k [] m = refl
 all_seen k (l ∷ ls) m = level_seen k l.role l (all_buffers ls) m.0 (all_seen k ls m.1)
 
 -- a number that is listed is from lo to n
-abbrev Within : ℕ → ℕ → List ℕ → Type 0
+abbrev pub Within : ℕ → ℕ → List ℕ → Type 0
 Within lo n bs = (b : ℕ) → is_listed b bs ≡ true → (lo ≤ b) × (b < n)
 
-one_within : (lo n b : ℕ) (bs : List ℕ) → lo ≤ b → b < n → Within lo n bs → Within lo n (b ∷ bs)
+pub one_within : (lo n b : ℕ) (bs : List ℕ) → lo ≤ b → b < n → Within lo n bs → Within lo n (b ∷ bs)
 one_within lo n b bs h g w c e = case (nat_eq c b) refl e
   where
     case : (t : Bool) → nat_eq c b ≡ t → t || is_listed c bs ≡ true → (lo ≤ c) × (c < n)
     case true q f = let s : c ≡ b = grind (arith, nat_tests) in (omega (arith, s, h), omega (arith, s, g))
     case false q f = w c f
 
-within_more : (lo lower n : ℕ) (bs : List ℕ) → lower ≤ lo → Within lo n bs → Within lower n bs
+pub within_more : (lo lower n : ℕ) (bs : List ℕ) → lower ≤ lo → Within lo n bs → Within lower n bs
 within_more lo lower n bs le w b e = let z = w b e in (omega (arith, z.0, le), z.1)
 
 level_listed : (r : Role) (lo n first : ℕ) (rest : List ℕ) → lo ≤ first → first + 4 ≤ n → Within lo n rest → Within lo n (level_buffers r first ++ rest)
@@ -143,22 +143,22 @@ level_listed role.Counted lo n first rest h g w = w
 level_listed role.Marked lo n first rest h g w = one_within lo n first rest h (omega (arith, g)) w
 level_listed role.Kept lo n first rest h g w = w
 
-all_listed : (ls : List LevelTree) (lo n : ℕ) → NamesRise lo ls n → Within lo n (all_buffers ls)
+pub all_listed : (ls : List LevelTree) (lo n : ℕ) → NamesRise lo ls n → Within lo n (all_buffers ls)
 all_listed [] lo n h = λ b e. absurd cc
 all_listed (l ∷ ls) lo n h =
     level_listed l.role lo n l.first (all_buffers ls) h.0 (rise_up ls (l.first + 4) n h.1) (within_more (l.first + 4) lo n (all_buffers ls) (omega (arith, h.0)) (all_listed ls (l.first + 4) n h.1))
 
-not_listed : (lo n b : ℕ) (bs : List ℕ) → Within lo n bs → b < lo → is_listed b bs ≡ false
+pub not_listed : (lo n b : ℕ) (bs : List ℕ) → Within lo n bs → b < lo → is_listed b bs ≡ false
 not_listed lo n b bs w lt = case (is_listed b bs) refl
   where
     case : (t : Bool) → is_listed b bs ≡ t → t ≡ false
     case true e = absurd (omega (arith, (w b e).0, lt))
     case false e = refl
 
-one_new : (lo n b : ℕ) (bs : List ℕ) → Within lo n bs → b < lo → are_distinct bs ≡ true → are_distinct (b ∷ bs) ≡ true
+pub one_new : (lo n b : ℕ) (bs : List ℕ) → Within lo n bs → b < lo → are_distinct bs ≡ true → are_distinct (b ∷ bs) ≡ true
 one_new lo n b bs w lt d = both_true _ _ (ap not (not_listed lo n b bs w lt)) d
 
-level_new : (r : Role) (n first : ℕ) (rest : List ℕ) → first + 4 ≤ n → Within (first + 4) n rest → are_distinct rest ≡ true → are_distinct (level_buffers r first ++ rest) ≡ true
+pub level_new : (r : Role) (n first : ℕ) (rest : List ℕ) → first + 4 ≤ n → Within (first + 4) n rest → are_distinct rest ≡ true → are_distinct (level_buffers r first ++ rest) ≡ true
 level_new role.Full n first rest g w d = d
 level_new role.Shared n first rest g w d = one_new (first + 1) n first ((first + 1) ∷ rest) (one_within (first + 1) n (first + 1) rest (omega arith) (omega (arith, g)) (within_more (first + 4) (first + 1) n rest (omega arith) w)) (omega arith) (one_new (first + 4) n (first + 1) rest w (omega arith) d)
 level_new role.Single n first rest g w d = one_new (first + 1) n first ((first + 1) ∷ rest) (one_within (first + 1) n (first + 1) rest (omega arith) (omega (arith, g)) (within_more (first + 4) (first + 1) n rest (omega arith) w)) (omega arith) (one_new (first + 4) n (first + 1) rest w (omega arith) d)
@@ -168,13 +168,13 @@ level_new role.Counted n first rest g w d = d
 level_new role.Marked n first rest g w d = one_new (first + 4) n first rest w (omega arith) d
 level_new role.Kept n first rest g w d = d
 
-all_new : (ls : List LevelTree) (lo n : ℕ) → NamesRise lo ls n → are_distinct (all_buffers ls) ≡ true
+pub all_new : (ls : List LevelTree) (lo n : ℕ) → NamesRise lo ls n → are_distinct (all_buffers ls) ≡ true
 all_new [] lo n h = refl
 all_new (l ∷ ls) lo n h = level_new l.role n l.first (all_buffers ls) (rise_up ls (l.first + 4) n h.1) (all_listed ls (l.first + 4) n h.1) (all_new ls (l.first + 4) n h.1)
 
 -- ---- the phases
 
-order_bufs : (g : Context) (keys : Option ℕ) (f count b : ℕ) → f ≢ b → (with_bufs g (order_makes keys f count)).bufs b ≡ g.bufs b
+pub order_bufs : (g : Context) (keys : Option ℕ) (f count b : ℕ) → f ≢ b → (with_bufs g (order_makes keys f count)).bufs b ≡ g.bufs b
 order_bufs g None f count b n = refl
 order_bufs g (Some k) f count b n = put_other g.bufs f _ b n
 

@@ -122,7 +122,7 @@ fn role_of(kind: Kind, last: bool, ranked: bool) -> Role
 }
 
 /// A level in the loop that builds.
-fn built_level(count: u32, level: PartLevel, last: bool, at: Descent) -> BuildLevel
+pub fn built_level(count: u32, level: PartLevel, last: bool, at: Descent) -> BuildLevel
     requires { at.dims + 2 < 2 ^ 32 }
     ensures { level_tree result ≡ plain.built_level count level last at }
 {
@@ -138,7 +138,7 @@ fn built_level(count: u32, level: PartLevel, last: bool, at: Descent) -> BuildLe
 }
 
 /// The values in the loop that builds.
-fn built_values(at: Descent) -> BuildLevel
+pub fn built_values(at: Descent) -> BuildLevel
     ensures { level_tree result ≡ plain.built_values at }
 {
     BuildLevel {
@@ -152,8 +152,8 @@ fn built_values(at: Descent) -> BuildLevel
     }
 }
 
-/// A level in front of others.
-fn in_front(
+/// A level in front of others. It fails only for want of memory.
+pub fn in_front(
     alloc: Global,
     level: BuildLevel,
     mut rest: Vec<BuildLevel>,

@@ -17,5 +17,9 @@ pub use laws::{
     building_builds, buildings_leave, buildings_typed, counting_counts, entries_are_built,
     entries_are_rows, keys_are_enough, phases_build, shares_are_small,
 };
+pub use levels::{are_last, built_level, built_values, deeper, in_front};
 pub use part::{Descent, PartLevel, PartLoops};
-pub use phases::{build_phases, built_buffers};
+pub use phases::{
+    all_columns, buffers_of, build_phases, built_buffers, counting_phase, first_column, order_of,
+    top_of,
+};

@@ -13,7 +13,7 @@ use us_code::{Block, CellKind, Dim, Make, Makes, Numbers, Phase, Phases};
 use us_gen_build::{BuildLevel, Role, build_block, new_buffers, order_block};
 
 /// The buffer of the places of the entries in order.
-fn order_of(keys: Option<usize>, first: u32) -> Option<u32>
+pub fn order_of(keys: Option<usize>, first: u32) -> Option<u32>
     ensures { result ≡ phases.order_of keys first }
 {
     match keys {
@@ -23,7 +23,7 @@ fn order_of(keys: Option<usize>, first: u32) -> Option<u32>
 }
 
 /// The first register of a column.
-fn first_column(order: Option<u32>, turn: u32) -> u32
+pub fn first_column(order: Option<u32>, turn: u32) -> u32
     requires { turn + 2 < 2 ^ 32 }
     ensures value { result ≡ phases.first_column order turn }
     ensures small { result < turn + 3 }
@@ -35,7 +35,7 @@ fn first_column(order: Option<u32>, turn: u32) -> u32
 }
 
 /// Above the first level.
-fn top_of(dims: u32, first: u32, register: u32) -> Descent
+pub fn top_of(dims: u32, first: u32, register: u32) -> Descent
     ensures { result ≡ phases.top_of dims first register }
 {
     Descent {
@@ -121,8 +121,9 @@ fn count_code(
     }
 }
 
-/// The phase that orders the entries, counts nodes, and gives all numbers of positions.
-fn counting_phase(alloc: Global, part: &PartLoops, first: u32) -> Result<Phase, AllocError>
+/// The phase that orders the entries, counts nodes, and gives all numbers of positions. It takes numbers as both phases do,
+/// and fails only for want of memory.
+pub fn counting_phase(alloc: Global, part: &PartLoops, first: u32) -> Result<Phase, AllocError>
     requires keys { MatchOption part.now.keys (Unit {0}) (λ k. k ≤ length part.now.levels.items) }
     requires room { first + phases.room part.now < 2 ^ 32 }
     ensures { IfOk result (λ p. phase_tree p ≡ phases.counting_phase part.now first) }
@@ -154,8 +155,8 @@ fn counting_phase(alloc: Global, part: &PartLoops, first: u32) -> Result<Phase, 
     })
 }
 
-/// The columns of coordinates, and that of values.
-fn all_columns(alloc: Global, part: &PartLoops) -> Result<Vec<u32>, AllocError>
+/// The columns of coordinates, and that of values. It fails only for want of memory.
+pub fn all_columns(alloc: Global, part: &PartLoops) -> Result<Vec<u32>, AllocError>
     ensures { IfOk result (λ v. v.items ≡ phases.all_columns part.now) }
 {
     let mut columns = columns_of(alloc, part.levels.as_slice())?;
@@ -241,8 +242,8 @@ fn level_buffers(alloc: Global, level: &BuildLevel) -> Result<Numbers, AllocErro
     }
 }
 
-/// The new buffers of levels, in order.
-fn buffers_of(alloc: Global, levels: &[BuildLevel]) -> Result<Numbers, AllocError>
+/// The new buffers of levels, in order. It fails only for want of memory.
+pub fn buffers_of(alloc: Global, levels: &[BuildLevel]) -> Result<Numbers, AllocError>
     requires { HaveNames levels.now }
     ensures { IfOk result (λ bs. bs ≡ phases.all_buffers (level_trees levels.now)) }
 {

@@ -1,0 +1,5 @@
+pub mod Typed
+pub mod Lowering
+pub mod Filled
+pub mod Leading
+pub mod Holding

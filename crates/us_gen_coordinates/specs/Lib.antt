@@ -1,0 +1,3 @@
+pub mod Phase
+pub mod Laws
+pub mod Held

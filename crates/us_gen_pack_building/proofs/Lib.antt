@@ -1,0 +1,12 @@
+pub mod Roles
+pub mod Standing
+pub mod Lines
+pub mod Columns
+pub mod Names
+pub mod Packs
+pub mod Costs
+pub mod Counting
+pub mod Making
+pub mod Building
+pub mod Fits
+pub mod Leaving

@@ -1,0 +1,4 @@
+pub mod Levels
+pub mod Phases
+pub mod Kinds
+pub mod Runs

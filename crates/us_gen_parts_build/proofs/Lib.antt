@@ -1,0 +1,15 @@
+pub mod Sizes
+pub mod Orderly
+pub mod Making
+pub mod Costs
+pub mod Given
+pub mod Readable
+pub mod Ready
+pub mod PackRuns
+pub mod Leading
+pub mod Fitting
+pub mod Limits
+pub mod Accepted
+pub mod Packed
+pub mod Pieces
+pub mod Counted

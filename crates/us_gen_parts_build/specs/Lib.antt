@@ -1,0 +1,4 @@
+pub mod Parts
+pub mod Phases
+pub mod Meaning
+pub mod Counted
