@@ -1,0 +1,19 @@
+-- Answers of calls.
+use Rattle.std.proofs.Common.{◌≡◌, ℕ, sym, ap, ◌∙◌, subst, List, ◌++◌, map, Result, Ok, Err}
+use Rattle.std.specs.Prelude.{IfOk, OnOk}
+use Rattle.std.proofs.lemmas.List.{map-append}
+use Rattle.std.specs.declared.alloc.AllocError.{AllocError}
+use Rattle.us_code.specs.declared.pieces.BuildPiece.{BuildPiece}
+use Rattle.us_code.specs.declared.program.Phase.{Phase}
+use Rattle.us_code.specs.Plain.{PhaseTree, phase_tree}
+
+pub behind-is : (P : List PhaseTree → List ℕ → Type 0) (r : Result BuildPiece AllocError) (ps qs : List Phase) (out : List ℕ) → IfOk r (λ p. p.phases ≡ ps ++ qs) → IfOk r (λ p. p.buffers ≡ out)
+    → P (map phase_tree ps ++ map phase_tree qs) out → IfOk r (λ p. P (map phase_tree p.phases) p.buffers)
+behind-is P (Ok p) ps qs out a b x =
+    subst (λ (bs : List ℕ). P (map phase_tree p.phases) bs) (sym b)
+    (subst (λ (zs : List PhaseTree). P zs out) (sym (ap (λ (xs : List Phase). map phase_tree xs) a ∙ map-append phase_tree ps qs)) x)
+behind-is P (Err e) ps qs out a b x = tt
+
+pub on-ok : {A E : Type 0} (r : Result A E) (P : Type 0) → P → OnOk r P
+on-ok (Ok x) P p = p
+on-ok (Err e) P p = tt

@@ -1,0 +1,10 @@
+pub mod Sources
+pub mod Buffers
+pub mod Sums
+pub mod Shares
+pub mod Accepted
+pub mod Later
+pub mod Alike
+pub mod Starting
+pub mod Growing
+pub mod Finished

@@ -1,0 +1,5 @@
+pub mod Right
+pub mod Costs
+pub mod Piece
+pub mod Draft
+pub mod Laws
