@@ -1,5 +1,5 @@
 -- Numbers of digits, and the places behind them.
-use Rattle.std.proofs.Common.{◌≡◌, ℕ, zero, suc, ◌+◌, ◌*◌, ◌%◌, ◌^◌, ◌<◌, ◌≤◌, Bool, true, false, cond, nat_lt, List, [], ◌∷◌, map, length, drop, get_or, ℤ, pos, negsuc, refl, sym, ap, ap₂, ◌∙◌, subst, arith, mul_assoc, mul_comm, mul-one, inl, inr}
+use Rattle.std.proofs.Common.{◌≡◌, ℕ, zero, suc, ◌+◌, ◌*◌, ◌%◌, ◌<◌, ◌≤◌, Bool, true, false, cond, nat_lt, List, [], ◌∷◌, map, length, drop, get_or, ℤ, pos, negsuc, refl, sym, ap, ap₂, ◌∙◌, subst, arith, mul_assoc, mul_comm, mul-one, inl, inr}
 use Rattle.std.specs.Prelude.{◌-ℤ◌, ◌≤ℤ◌, unsigned_abs}
 use Rattle.std.specs.List.{All, range_with_len}
 use Rattle.std.specs.List.Sorted.{IsPermutation, IsSortedBy, IsSortedByKey}

@@ -30,6 +30,7 @@ impl Budget {
     }
 
     /// Counts steps, unless the run may not take them.
+    #[inline(always)]
     pub fn charge(self, steps: &mut u64, count: u64) -> Result<(), RunStop>
         ensures ok { OnOk result ((n : ℕ) → Shows self steps.old n → Shows self steps.new (n + count)) }
         ensures over { OnErr result ((n : ℕ) → Shows self steps.old n → IsOver self (n + count)) }

@@ -26,6 +26,7 @@ impl Names {
     }
 
     /// The number of the name.
+    #[inline(always)]
     pub fn get(&self, name: u32) -> u64
         ensures { result ≡ held self.now name }
     {
@@ -38,6 +39,7 @@ impl Names {
     }
 
     /// Sets the number of the name. It takes memory only for a name that has no place and no number.
+    #[inline(always)]
     pub fn set(&mut self, name: u32, number: u64) -> Result<(), AllocError>
         ensures { OnOk result (held self.new ≡ put (held self.old) name number) }
     {
@@ -68,6 +70,7 @@ impl Registers {
     }
 
     /// What the register holds.
+    #[inline(always)]
     pub fn get(&self, reg: u32) -> i64
         ensures { result ≡ regs_of self.now reg }
     {
@@ -75,6 +78,7 @@ impl Registers {
     }
 
     /// Sets the register. It takes memory only where the register has no place and was not set before.
+    #[inline(always)]
     pub fn set(&mut self, reg: u32, value: i64) -> Result<(), AllocError>
         ensures { OnOk result (regs_of self.new ≡ put (regs_of self.old) reg value) }
     {

@@ -22,6 +22,7 @@ use us_code::Buf;
 use us_raw::Region;
 
 /// The cell of a list at a place, or 0 behind its end.
+#[inline(always)]
 fn cell(region: &Region, seg: usize, place: u32, len: u64) -> i64
     requires { length (get_or region.now.lists seg []) ≡ len }
     ensures { result ≡ get_or (get_or region.now.lists seg []) place (pos 0) }
@@ -35,6 +36,7 @@ fn cell(region: &Region, seg: usize, place: u32, len: u64) -> i64
 }
 
 /// Which of two places comes first: by the first key that tells them apart, else by number.
+#[inline(always)]
 fn compare(segs: &[usize], x: u32, y: u32, len: u64, region: &Region) -> Ordering
     requires { AreLists region.now.lists len segs.now }
     ensures { is_lt result ≡ sort.before (lists_at region.now.lists segs.now) x y }

@@ -18,6 +18,7 @@ use us_matrix::Buffers;
 use us_raw::Region;
 
 /// The number as a place, if it is one below the bound.
+#[inline(always)]
 pub fn place(number: i64, bound: u64) -> Option<u64>
     ensures { result ≡ run.place number bound }
 {
@@ -29,6 +30,7 @@ pub fn place(number: i64, bound: u64) -> Option<u64>
 }
 
 /// Whether the numbers are equal, or whether the left one is less.
+#[inline(always)]
 pub fn test(equal: bool, left: i64, right: i64) -> bool
     ensures { result ≡ run.test equal left right }
 {
@@ -36,6 +38,7 @@ pub fn test(equal: bool, left: i64, right: i64) -> bool
 }
 
 /// A register gets the value of a term.
+#[inline(always)]
 pub fn assign(
     reg: u32,
     value: &Term,
@@ -54,6 +57,7 @@ pub fn assign(
 }
 
 /// A register gets a cell.
+#[inline(always)]
 pub fn load(
     reg: u32,
     buf: Buf,
@@ -76,6 +80,7 @@ pub fn load(
 }
 
 /// A cell gets the value of a term.
+#[inline(always)]
 pub fn store(
     buf: Buf,
     at: &Term,

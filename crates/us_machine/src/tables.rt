@@ -23,6 +23,7 @@ pub struct Tables {
 
 impl Tables {
     /// The value of a dim.
+    #[inline(always)]
     pub fn size(&self, dim: Dim, source: &Buffers) -> u64
         requires { IsSized self.now source.now dim }
         ensures value { result ≡ size_of (env_of self.now source.now) dim }
@@ -36,6 +37,7 @@ impl Tables {
     }
 
     /// Which list of the region a buffer is.
+    #[inline(always)]
     pub fn segment(&self, buf: Buf) -> usize
         ensures { result ≡ seg_of self.now buf }
     {

@@ -9,8 +9,23 @@ use crate::tables::Tables;
 use us_code::Term;
 use us_matrix::Buffers;
 
-/// The value of a term.
+/// The value of a term. A number and a register are read in place.
+#[cycle(terms)]
+#[inline(always)]
 pub fn eval(term: &Term, tables: &Tables, source: &Buffers, regs: &Registers) -> i64
+    requires { IsEvaluable tables.now source.now (regs_of regs.now) (term_tree term.now) }
+    ensures { result ≡ value (env_of tables.now source.now) (regs_of regs.now) (term_tree term.now) }
+{
+    match term {
+        Term::Number(n) => *n as i64,
+        Term::Reg(r) => regs.get(*r),
+        _ => compute(term, tables, source, regs),
+    }
+}
+
+/// The value of a term, from those of its parts.
+#[cycle(terms)]
+fn compute(term: &Term, tables: &Tables, source: &Buffers, regs: &Registers) -> i64
     requires { IsEvaluable tables.now source.now (regs_of regs.now) (term_tree term.now) }
     ensures { result ≡ value (env_of tables.now source.now) (regs_of regs.now) (term_tree term.now) }
 {

@@ -19,7 +19,10 @@ use us_matrix::Buffers;
 use us_raw::Region;
 
 /// Runs a block. Each statement and each turn of a loop is counted before it begins.
+///
+/// It stands in place in the loops and in `run_inner`, so the statements of a loop's body take no calls.
 #[cycle(walk)]
+#[inline(always)]
 pub fn run_block(
     block: &Block,
     tables: &Tables,
@@ -43,6 +46,7 @@ pub fn run_block(
 
 /// Runs a statement.
 #[cycle(walk)]
+#[inline(always)]
 fn run_stmt(
     stmt: &Stmt,
     tables: &Tables,
@@ -97,7 +101,7 @@ fn run_stmt(
             let left = eval(left, tables, source, regs);
             let right = eval(right, tables, source, regs);
             if test(*equal, left, right) {
-                run_block(body, tables, source, alloc, regs, region, steps)
+                run_inner(body, tables, source, alloc, regs, region, steps)
             } else {
                 run_other(other, tables, source, alloc, regs, region, steps)
             }
@@ -113,7 +117,7 @@ fn run_stmt(
             match place(value, tables.size(*below, source)) {
                 Some(_) => {
                     regs.set(*reg, value)?;
-                    run_block(body, tables, source, alloc, regs, region, steps)
+                    run_inner(body, tables, source, alloc, regs, region, steps)
                 }
                 None => run_other(other, tables, source, alloc, regs, region, steps),
             }
@@ -152,6 +156,27 @@ fn run_turns(
     Ok(())
 }
 
+/// Runs a block that stands in another one. It is never in place there.
+#[cycle(walk)]
+#[inline(never)]
+fn run_inner(
+    block: &Block,
+    tables: &Tables,
+    source: &Buffers,
+    alloc: Global,
+    regs: &mut Registers,
+    region: &mut Region,
+    steps: &mut u64,
+) -> Result<(), RunStop>
+    requires { (g : Context) × Ready tables.now source.now region.old (regs_of regs.old) g (tree_of block.now) }
+    ensures { (n : ℕ) → Shows tables.now.budget steps.old n
+        → Leads tables.now source.now result
+        (exec (env_of tables.now source.now) (tree_of block.now) (state_of tables.now region.old (regs_of regs.old) n))
+        region.new (regs_of regs.new) steps.new }
+{
+    run_block(block, tables, source, alloc, regs, region, steps)
+}
+
 /// Runs the block behind an `else`, where there is one.
 #[cycle(walk)]
 fn run_other(
@@ -171,6 +196,6 @@ fn run_other(
 {
     match other {
         None => Ok(()),
-        Some(block) => run_block(block, tables, source, alloc, regs, region, steps),
+        Some(block) => run_inner(block, tables, source, alloc, regs, region, steps),
     }
 }

@@ -1,8 +1,8 @@
-use Rattle.std.proofs.Common.{◌≡◌, ◌+◌, ◌*◌, ◌<◌, ◌≤◌, ◌∙◌, ℕ, pos, List, length, drop, get_or, ap, sym, subst, arith}
+use Rattle.std.proofs.Common.{◌+◌, ◌*◌, ◌<◌, ◌≤◌, ◌∙◌, ℕ, pos, List, length, drop, get_or, ap, sym, subst, arith}
 use Rattle.std.proofs.lemmas.List.{at_drop_more}
 use Rattle.us_machine.specs.declared.packing.Digit.{Digit}
 use Rattle.us_machine.specs.Packing.{count_from, number_from}
-use Rattle.us_machine.proofs.Digits.{turn_narrow, last_narrow}
+use Rattle.us_machine.proofs.Digits.{turn_narrow}
 use Rattle.us_machine.proofs.packing.number_at.Goals as goal
 
 abbrev none : Digit

@@ -1,4 +1,4 @@
-use Rattle.std.proofs.Common.{◌≡◌, ◌∙◌, ℕ, List, ℤ, [], length, get_or, map, ap, sym, subst, IfOk}
+use Rattle.std.proofs.Common.{◌≡◌, ◌∙◌, ℕ, List, ℤ, [], length, get_or, ap, sym, subst, IfOk}
 use Rattle.std.proofs.lemmas.List.Elements.{All-map}
 use Rattle.us_code.specs.Sort.{ordered}
 use Rattle.us_machine.specs.Sorting.{lists_at, lists_of, AreLists}

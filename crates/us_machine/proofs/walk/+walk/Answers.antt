@@ -111,8 +111,8 @@ run_stmt-eval-right-requires t c =
     let y : Ready c.args.tables.now c.args.source.now c.args.region.now (regs_of c.args.regs.now) c.requires.0 (plain.If (term_tree c.in-If.left) c.in-If.equal (term_tree c.in-If.right) (tree_of c.in-If.body) (was_given c.in-If.other) (other_tree c.in-If.other) plain.End) = subst (λ (b : Code). Ready c.args.tables.now c.args.source.now c.args.region.now (regs_of c.args.regs.now) c.requires.0 b) (ap alone c.in-If.is ∙ alone_if c.in-If.left c.in-If.equal c.in-If.right c.in-If.body c.in-If.other) c.requires.1 in
     evaluable c.args.tables.now c.args.source.now c.args.region.now (regs_of c.args.regs.now) c.requires.0 (term_tree c.in-If.right) y.fits y.sized y.terms.1.0 y.typed.1
 
-pub run_stmt-run_block-requires : goal.run_stmt-run_block-requires
-run_stmt-run_block-requires t c =
+pub run_stmt-run_inner-requires : goal.run_stmt-run_inner-requires
+run_stmt-run_inner-requires t c =
     let y : Ready c.args.tables.now c.args.source.now c.args.region.now (regs_of c.args.regs.now) c.requires.0 (plain.If (term_tree c.in-If.left) c.in-If.equal (term_tree c.in-If.right) (tree_of c.in-If.body) (was_given c.in-If.other) (other_tree c.in-If.other) plain.End) = subst (λ (b : Code). Ready c.args.tables.now c.args.source.now c.args.region.now (regs_of c.args.regs.now) c.requires.0 b) (ap alone c.in-If.is ∙ alone_if c.in-If.left c.in-If.equal c.in-If.right c.in-If.body c.in-If.other) c.requires.1 in
     (search (rules, the_lemmas), (c.requires.0, then_ready c.args.tables.now c.args.source.now c.args.region.now (regs_of c.args.regs.now) c.requires.0 (term_tree c.in-If.left) c.in-If.equal (term_tree c.in-If.right) (tree_of c.in-If.body) (was_given c.in-If.other) (other_tree c.in-If.other) y))
 
@@ -131,8 +131,8 @@ run_stmt-size-requires t c =
     let y : Ready c.args.tables.now c.args.source.now c.args.region.now (regs_of c.args.regs.now) c.requires.0 (plain.When (term_tree c.in-When.value) c.in-When.below c.in-When.reg (tree_of c.in-When.body) (was_given c.in-When.other) (other_tree c.in-When.other) plain.End) = subst (λ (b : Code). Ready c.args.tables.now c.args.source.now c.args.region.now (regs_of c.args.regs.now) c.requires.0 b) (ap alone c.in-When.is ∙ alone_when c.in-When.value c.in-When.below c.in-When.reg c.in-When.body c.in-When.other) c.requires.1 in
     dim_sized c.args.tables.now c.args.source.now c.requires.0 c.in-When.below y.sized y.terms.1 y.typed.1
 
-pub run_stmt-run_block-requires-in-Some : goal.run_stmt-run_block-requires-in-Some
-run_stmt-run_block-requires-in-Some t c =
+pub run_stmt-run_inner-requires-in-Some : goal.run_stmt-run_inner-requires-in-Some
+run_stmt-run_inner-requires-in-Some t c =
     let y : Ready c.args.tables.now c.args.source.now c.args.region.now (regs_of c.args.regs.now) c.requires.0 (plain.When (term_tree c.in-When.value) c.in-When.below c.in-When.reg (tree_of c.in-When.body) (was_given c.in-When.other) (other_tree c.in-When.other) plain.End) = subst (λ (b : Code). Ready c.args.tables.now c.args.source.now c.args.region.now (regs_of c.args.regs.now) c.requires.0 b) (ap alone c.in-When.is ∙ alone_when c.in-When.value c.in-When.below c.in-When.reg c.in-When.body c.in-When.other) c.requires.1 in
     let fv : FitsSigned w64 c.eval-value.result = search rules in
     let found : place c.eval-value.result c.size.result ≡ Some c.in-Some.field-0 = ap (λ (z : ℤ). place z c.size.result) (sym (to_z-of_z w64 c.eval-value.result fv)) ∙ (sym c.place.ensures ∙ c.in-Some.is) in
@@ -192,8 +192,8 @@ run_stmt-returns-then-test t c =
     let fb : FitsSigned w64 c.eval-right.result = search rules in
     let e = c.test.ensures ∙ (ap (λ (z : ℤ). test c.in-If.equal z (to_z w64 (of_z w64 c.eval-right.result))) (to_z-of_z w64 c.eval-left.result fa) ∙ ap (test c.in-If.equal c.eval-left.result) (to_z-of_z w64 c.eval-right.result fb)) in
     λ n h.
-    leads_as c.args.tables.now c.args.source.now c.args.region.now (regs_of c.args.regs.now) c.run_block.result (exec (env_of c.args.tables.now c.args.source.now) (tree_of c.in-If.body) ((λ (n : ℕ). state_of c.args.tables.now c.args.region.now (regs_of c.args.regs.now) n) (n + 1))) (exec (env_of c.args.tables.now c.args.source.now) (alone c.args.stmt.now) ((λ (n : ℕ). state_of c.args.tables.now c.args.region.now (regs_of c.args.regs.now) n) n)) c.run_block.new.region (regs_of c.run_block.new.regs) c.run_block.new.steps
-    ((ap (λ (b : Code). exec (env_of c.args.tables.now c.args.source.now) b ((λ (n : ℕ). state_of c.args.tables.now c.args.region.now (regs_of c.args.regs.now) n) n)) (ap alone c.in-If.is ∙ alone_if c.in-If.left c.in-If.equal c.in-If.right c.in-If.body c.in-If.other)) ∙ then_is c.args.tables.now c.args.source.now c.args.region.now (regs_of c.args.regs.now) (term_tree c.in-If.left) c.in-If.equal (term_tree c.in-If.right) (tree_of c.in-If.body) (was_given c.in-If.other) (other_tree c.in-If.other) c.eval-left.result c.eval-right.result c.test.result n c.eval-left.ensures c.eval-right.ensures e c.if-test.true) (c.run_block.ensures (n + 1) (c.in_ok-charge.ensures.ok n h))
+    leads_as c.args.tables.now c.args.source.now c.args.region.now (regs_of c.args.regs.now) c.run_inner.result (exec (env_of c.args.tables.now c.args.source.now) (tree_of c.in-If.body) ((λ (n : ℕ). state_of c.args.tables.now c.args.region.now (regs_of c.args.regs.now) n) (n + 1))) (exec (env_of c.args.tables.now c.args.source.now) (alone c.args.stmt.now) ((λ (n : ℕ). state_of c.args.tables.now c.args.region.now (regs_of c.args.regs.now) n) n)) c.run_inner.new.region (regs_of c.run_inner.new.regs) c.run_inner.new.steps
+    ((ap (λ (b : Code). exec (env_of c.args.tables.now c.args.source.now) b ((λ (n : ℕ). state_of c.args.tables.now c.args.region.now (regs_of c.args.regs.now) n) n)) (ap alone c.in-If.is ∙ alone_if c.in-If.left c.in-If.equal c.in-If.right c.in-If.body c.in-If.other)) ∙ then_is c.args.tables.now c.args.source.now c.args.region.now (regs_of c.args.regs.now) (term_tree c.in-If.left) c.in-If.equal (term_tree c.in-If.right) (tree_of c.in-If.body) (was_given c.in-If.other) (other_tree c.in-If.other) c.eval-left.result c.eval-right.result c.test.result n c.eval-left.ensures c.eval-right.ensures e c.if-test.true) (c.run_inner.ensures (n + 1) (c.in_ok-charge.ensures.ok n h))
 
 pub run_stmt-returns-else-test : goal.run_stmt-returns-else-test
 run_stmt-returns-else-test t c =
@@ -210,8 +210,8 @@ run_stmt-returns-in_ok-set-in-Some t c =
     let found : place c.eval-value.result c.size.result ≡ Some c.in-Some.field-0 = ap (λ (z : ℤ). place z c.size.result) (sym (to_z-of_z w64 c.eval-value.result fv)) ∙ (sym c.place.ensures ∙ c.in-Some.is) in
     let set : regs_of c.set.new.self ≡ put (regs_of c.args.regs.now) c.in-When.reg c.eval-value.result = c.in_ok-set-in-Some.ensures ∙ ap (put (regs_of c.args.regs.now) c.in-When.reg) (to_z-of_z w64 c.eval-value.result fv) in
     λ n h.
-    leads_as c.args.tables.now c.args.source.now c.args.region.now (regs_of c.args.regs.now) c.run_block-in-Some.result (exec (env_of c.args.tables.now c.args.source.now) (tree_of c.in-When.body) (state_of c.args.tables.now c.args.region.now (regs_of c.set.new.self) (n + 1))) (exec (env_of c.args.tables.now c.args.source.now) (alone c.args.stmt.now) ((λ (n : ℕ). state_of c.args.tables.now c.args.region.now (regs_of c.args.regs.now) n) n)) c.run_block-in-Some.new.region (regs_of c.run_block-in-Some.new.regs) c.run_block-in-Some.new.steps
-    ((ap (λ (b : Code). exec (env_of c.args.tables.now c.args.source.now) b ((λ (n : ℕ). state_of c.args.tables.now c.args.region.now (regs_of c.args.regs.now) n) n)) (ap alone c.in-When.is ∙ alone_when c.in-When.value c.in-When.below c.in-When.reg c.in-When.body c.in-When.other)) ∙ when_is c.args.tables.now c.args.source.now c.args.region.now (regs_of c.args.regs.now) (term_tree c.in-When.value) c.in-When.below c.in-When.reg (tree_of c.in-When.body) (was_given c.in-When.other) (other_tree c.in-When.other) c.eval-value.result c.size.result c.in-Some.field-0 n (regs_of c.set.new.self) c.eval-value.ensures c.size.ensures.value found set) (c.run_block-in-Some.ensures (n + 1) (c.in_ok-charge.ensures.ok n h))
+    leads_as c.args.tables.now c.args.source.now c.args.region.now (regs_of c.args.regs.now) c.run_inner-in-Some.result (exec (env_of c.args.tables.now c.args.source.now) (tree_of c.in-When.body) (state_of c.args.tables.now c.args.region.now (regs_of c.set.new.self) (n + 1))) (exec (env_of c.args.tables.now c.args.source.now) (alone c.args.stmt.now) ((λ (n : ℕ). state_of c.args.tables.now c.args.region.now (regs_of c.args.regs.now) n) n)) c.run_inner-in-Some.new.region (regs_of c.run_inner-in-Some.new.regs) c.run_inner-in-Some.new.steps
+    ((ap (λ (b : Code). exec (env_of c.args.tables.now c.args.source.now) b ((λ (n : ℕ). state_of c.args.tables.now c.args.region.now (regs_of c.args.regs.now) n) n)) (ap alone c.in-When.is ∙ alone_when c.in-When.value c.in-When.below c.in-When.reg c.in-When.body c.in-When.other)) ∙ when_is c.args.tables.now c.args.source.now c.args.region.now (regs_of c.args.regs.now) (term_tree c.in-When.value) c.in-When.below c.in-When.reg (tree_of c.in-When.body) (was_given c.in-When.other) (other_tree c.in-When.other) c.eval-value.result c.size.result c.in-Some.field-0 n (regs_of c.set.new.self) c.eval-value.ensures c.size.ensures.value found set) (c.run_inner-in-Some.ensures (n + 1) (c.in_ok-charge.ensures.ok n h))
 
 pub run_stmt-returns-in-None : goal.run_stmt-returns-in-None
 run_stmt-returns-in-None t c =

@@ -6,10 +6,10 @@ use Rattle.us_code.specs.Plain.{term_tree, Flat}
 use Rattle.us_code.specs.Run.{value}
 use Rattle.us_machine.specs.Tables.{env_of, regs_of, held, IsEvaluable}
 use Rattle.us_machine.proofs.Wraps.{flat_wraps}
-use Rattle.us_machine.proofs.terms.+eval.Goals as goal
+use Rattle.us_machine.proofs.terms.+terms.Goals as goal
 
-pub returns-in-Flat : goal.returns-in-Flat
-returns-in-Flat t c =
+pub compute-returns-in-Flat : goal.compute-returns-in-Flat
+compute-returns-in-Flat t c =
     let env = env_of c.args.tables.now c.args.source.now in
     let regs = regs_of c.args.regs.now in
     let val = λ (x : Term). value env regs (term_tree x) in
@@ -27,8 +27,8 @@ returns-in-Flat t c =
     flat_wraps c.eval.result c.eval-in-Flat.result c.get-factor.result fl fd small (subst (λ (x : ℤ). FitsSigned w64 x) (sym sum) r.3)
     ∙ (sum ∙ ap val (sym c.in-Flat.is))
 
-pub returns-in-Add : goal.returns-in-Add
-returns-in-Add t c =
+pub compute-returns-in-Add : goal.compute-returns-in-Add
+compute-returns-in-Add t c =
     let val = λ (x : Term). value (env_of c.args.tables.now c.args.source.now) (regs_of c.args.regs.now) (term_tree x) in
     let fl : FitsSigned w64 c.eval-left.result = search rules in
     let fr : FitsSigned w64 c.eval-in-Add.result = search rules in
@@ -37,8 +37,8 @@ returns-in-Add t c =
     ∙ (ap (λ (x : ℤ). int_wrap w64 (val c.in-Add.a.value +ℤ x)) (c.eval-in-Add.ensures ∙ ap val c.deref-in-Add-2.ensures)
     ∙ ap val (sym c.in-Add.is)))
 
-pub returns-in-Sub : goal.returns-in-Sub
-returns-in-Sub t c =
+pub compute-returns-in-Sub : goal.compute-returns-in-Sub
+compute-returns-in-Sub t c =
     let val = λ (x : Term). value (env_of c.args.tables.now c.args.source.now) (regs_of c.args.regs.now) (term_tree x) in
     let fl : FitsSigned w64 c.eval-left-in-Sub.result = search rules in
     let fr : FitsSigned w64 c.eval-in-Sub.result = search rules in
