@@ -103,7 +103,7 @@ fn push_part(
     requires accepted { first_refusal (declaration_of to.now) ≡ None }
     requires low { AreBelow draft.old.columns draft.old.fresh }
     requires room { draft.old.fresh + 131072 < 2 ^ 31 }
-    ensures { OnOk result (AddsPart (plain_shape shape) (declaration_of to.now) (part - 1) draft.old draft.new) }
+    ensures { OnOk result (AddsPart true (plain_shape shape) (declaration_of to.now) (part - 1) draft.old draft.new) }
 {
     let BuildPiece { phases, buffers } = part_piece(
         alloc,
