@@ -1,1 +1,4 @@
 pub mod Told
+pub mod Named
+pub mod Back
+pub mod Listings

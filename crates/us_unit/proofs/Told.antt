@@ -1,10 +1,10 @@
 -- What was read, as the definition of units tells it.
-use Rattle.std.proofs.Common.{◌≡◌, ℕ, ◌+◌, ◌-◌, ◌≤◌, List, [], length, drop, Result, Ok, Err, refl, sym, ap, ◌∙◌, subst, arith}
+use Rattle.std.proofs.Common.{◌≡◌, ℕ, ◌+◌, ◌-◌, ◌≤◌, List, length, drop, Result, Ok, Err, refl, sym, ap, ◌∙◌, subst, arith}
 use Rattle.us_tokens.specs.Lex.{lexed, Between}
 use Rattle.us_tokens.specs.Text.{Text}
 use Rattle.us_tokens.specs.Text as text
 use Rattle.us_grammar.specs.Reading as code
-use Rattle.us_decl.specs.Declares.{Declared, IsValid}
+use Rattle.us_decl.specs.Declares.{Declared}
 use Rattle.us_decl.specs.Views.{decl_view}
 use Rattle.us_parse.specs.Parses.{ParsesOne}
 use Rattle.us_parse.specs.declared.parsed.DeclFault.{DeclFault}
@@ -19,7 +19,7 @@ use Rattle.us_code_reader.specs.declared.parsed.CodeFault.TheVariants as fault
 use Rattle.us_code_reader.specs.declared.parsed.OneProgram.{OneProgram}
 use Rattle.us_code_reader.specs.Parses.{Answers, Parses, answer_on}
 use Rattle.us_code.specs.declared.program.Program.{Program}
-use Rattle.us_unit.specs.Units.{PlainUnit, Tells, TellsProgram, TellsUnit, ended, fault_of, held_with, program_of, program_told, unit_in, unit_of, unit_told, unit_with}
+use Rattle.us_unit.specs.Units.{PlainUnit, Tells, TellsProgram, TellsUnit, ended, fault_of, held_with, program_told, unit_in, unit_told, unit_with}
 use Rattle.us_unit.specs.declared.unit.OneUnit.{OneUnit}
 
 place_is : (len left place : ℕ) → place + left ≡ len → len - left ≡ place

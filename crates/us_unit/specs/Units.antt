@@ -1,5 +1,5 @@
 -- What the bytes of a unit hold, or the first fault of its text: a target declaration, then a program, then nothing but blanks and comments.
-use Rattle.std.specs.Prelude.{◌≡◌, ℕ, ◌-◌, List, [], length, drop, Result, Ok, Err}
+use Rattle.std.specs.Prelude.{◌≡◌, ℕ, ◌-◌, List, [], ◌++◌, length, drop, Result, Ok, Err}
 use Rattle.us_tokens.specs.Text as text
 use Rattle.us_tokens.specs.Text.{Text, left_of}
 use Rattle.us_tokens.specs.Lex.{lexed, Between}
@@ -15,11 +15,13 @@ use Rattle.us_parse.specs.Machine.{reader}
 use Rattle.us_parse.specs.Parses.{tokens_of}
 use Rattle.us_parse.specs.declared.parsed.DeclFault.{DeclFault}
 use Rattle.us_parse.specs.declared.parsed.DeclFault.TheVariants as decl
+use Rattle.us_print.specs.Canon.{decl_text}
 use Rattle.us_code.specs.Plain.{ProgramTree, program_tree}
 use Rattle.us_code.specs.declared.program.Program.{Program}
 use Rattle.us_code_table.specs.declared.lexeme.Lexeme.{Lexeme}
 use Rattle.us_code_table.specs.Words.{language}
 use Rattle.us_code_table.specs.Limits as limits
+use Rattle.us_code_print.specs.Canon.{code_text}
 use Rattle.us_code_reader.specs.declared.parsed.CodeFault.{CodeFault}
 use Rattle.us_code_reader.specs.declared.parsed.CodeFault.TheVariants as fault
 use Rattle.us_code_reader.specs.Parses.{answer_on}
@@ -64,6 +66,10 @@ unit_told bytes (Broken Repeated left) = Err (fault.Form (length bytes - left))
 -- what these bytes hold as a unit, or the first fault of their text
 abbrev pub unit_in : List ℕ → Result PlainUnit CodeFault
 unit_in bytes = unit_told bytes (scan (reader []) (tokens_of bytes) AtFormat)
+
+-- the canonical text of a unit: that of its declaration, and behind it that of its program
+abbrev pub unit_text : Declared → ProgramTree → List ℕ
+unit_text d p = decl_text d ++ code_text p
 
 -- ---- answers; of want of memory nothing is said
 
