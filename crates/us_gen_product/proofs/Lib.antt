@@ -1,0 +1,4 @@
+pub mod ProductFits
+pub mod ProductRuns
+pub mod Products
+pub mod Sums

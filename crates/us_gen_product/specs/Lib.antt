@@ -1,0 +1,4 @@
+pub mod Dense
+pub mod Product
+pub mod Rooms
+pub mod Runs
