@@ -1,0 +1,5 @@
+pub mod Sides
+pub mod LawfulBlocks
+pub mod LeastSoFar
+pub mod LeastFound
+pub mod Listed
