@@ -7,6 +7,8 @@ mod code_runs;
 #[cfg(test)]
 mod commands;
 #[cfg(test)]
+mod compiles;
+#[cfg(test)]
 mod containers;
 #[cfg(test)]
 mod declarations;

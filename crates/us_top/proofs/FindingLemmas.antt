@@ -185,11 +185,11 @@ judging_refused found i formats d status lt e is h =
 pub judging_all : (ds formats : List Declared) (i : ℕ) → length ds ≤ i → Judging ds i formats → judged_all ds ≡ Ok formats
 judging_all ds formats i le h = all_accepted ds i le h.so_far ∙ ap Ok (sym (h.taken ∙ take_all i ds le))
 
-pub judging_few : (found : List (Bor Decl)) (formats : List Declared) (i : ℕ) → length found ≤ i → length found ≤ 64 → Judging (map (λ d. decl_view d.now) found) i formats → length formats ≤ 64
-judging_few found formats i le few h =
+pub judging_count : (found : List (Bor Decl)) (formats : List Declared) (i : ℕ) → length found ≤ i → Judging (map (λ d. decl_view d.now) found) i formats → length formats ≡ length found
+judging_count found formats i le h =
     let ds = map (λ (d : Bor Decl). decl_view d.now) found in
     let behind : length ds ≤ i = omega (arith, le, length-map found (λ (d : Bor Decl). decl_view d.now)) in
-    omega (arith, few, length-map found (λ (d : Bor Decl). decl_view d.now), ap length (h.taken ∙ take_all i ds behind))
+    ap length (h.taken ∙ take_all i ds behind) ∙ length-map found (λ (d : Bor Decl). decl_view d.now)
 
 -- ---- the formats of a chain
 

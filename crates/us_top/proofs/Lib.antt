@@ -13,3 +13,4 @@ pub mod ReadBackLemmas
 pub mod ReportLemmas
 pub mod RunCodeLemmas
 pub mod RunLemmas
+pub mod CompileLemmas

@@ -1,5 +1,5 @@
 -- The ways in which a command ends, as runs of it.
-use Rattle.std.proofs.Common.{◌≡◌, ℕ, cond, unwrap_or, ◌++◌, List, [], ◌∷◌, Option, Some, None, IfSome, Result, Ok, Err, false, refl, sym, ap, ap₂, ◌∙◌, subst, inl}
+use Rattle.std.proofs.Common.{◌≡◌, ℕ, cond, unwrap_or, ◌++◌, List, [], ◌∷◌, Option, Some, None, IfSome, Result, Ok, Err, false, refl, sym, ap, ap₂, ◌∙◌, subst, inl, inr}
 use Rattle.std.specs.FinMap.{get, get-insert}
 use Rattle.std.specs.Cmp.Lexicographic.{nat_list_cmp_total}
 use Rattle.std.proofs.lemmas.Cmp.{eq_by_cmp_equiv}
@@ -11,26 +11,16 @@ use Rattle.us_top.specs.declared.status.Slot.{Slot}
 use Rattle.us_top.specs.declared.status.Slot.TheVariants.{Formats, Input, Code}
 use Rattle.us_top.specs.declared.status.Status.{Status}
 use Rattle.us_top.specs.declared.status.Status.TheVariants.{Done, WriteFault, Memory}
-use Rattle.us_top.specs.Commands.{Command, Canon, Check, Convert, Run, Info, Use, prints, reads, uses}
+use Rattle.us_top.specs.Commands.{Command, Canon, Check, Convert, Run, Info, Compile, Use, prints, reads, uses}
+use Rattle.us_decl.specs.Declares.{Declared}
+use Rattle.us_top.specs.Compiling.{IsUnitOfPair, pair_in}
 use Rattle.us_top.specs.Steps.{status_of}
 use Rattle.us_top.specs.Outcome.{Given, Makes, MayMake, plain_status, reached, steps}
 use Rattle.us_top.specs.Answers.{IsAnswer, IsCaused, IsPlainOrMemory, IsRefusal, IsStep, NoneRose, writes}
-use Rattle.us_top.specs.Stands.{Outcome, Stands, Store, nothing, after_stores}
-use Rattle.us_top.specs.Headline.{MeansInput, OutputMeans, DoneMeans, LibraryReads}
-use Rattle.us_top.specs.Runs.{IsRun, SomeStands, Told}
+use Rattle.us_top.specs.Stands.{Outcome, Stands, Store, after_stores}
+use Rattle.us_top.specs.Headline.{IsCompiled, MeansInput, OutputMeans, DoneMeans, LibraryReads}
+use Rattle.us_top.specs.Runs.{IsRun, SomeStands, StopsBefore, Told}
 use Rattle.us_top.proofs.AnswerLemmas.{both, end_answer, end_caused, end_words, plain_or_memory, refusal_caused, refusal_words, step_answer}
-
--- each command allows some outcome
-some_made : (command : Command) (given : Given command) → (o : Outcome) × Makes command given o
-some_made (Canon input output) given = (_, refl)
-some_made (Check formats shape) given = (_, refl)
-some_made (Convert formats input chain output) given = (_, refl)
-some_made (Run code input output budget) given = (_, refl)
-some_made (Info input) given = (_, refl)
-
-some_outcome : (command : Command) (r : Result (Given command) Status) → (o : Outcome) × MayMake command r o
-some_outcome command (Ok given) = some_made command given
-some_outcome command (Err status) = (nothing, refl)
 
 complete_by : (command : Command) (o : Option Files) (before now : Faults) (status : Status) → IsCaused (uses command) before now status
     → IfSome o (λ fs. IsAnswer (reached command fs) (plain_status command fs) status) → (NoneRose (uses command) before now → IfSome o (λ fs. IsPlainOrMemory (plain_status command fs) status))
@@ -39,12 +29,11 @@ complete_by command (Some fs) before now status c a n = plain_or_memory (reached
 
 -- ---- a refusal
 
-refusal_stands : (o : Outcome) (before now : Faults) (us : List Use) (status : Status) (fs : Files) (printed : Option (List ℕ)) (fs' : Option Files) (printed' : Option (List ℕ))
-    → IsRefusal us before now status → fs' ≡ Some fs → printed' ≡ printed → Stands o status fs printed fs' printed'
-refusal_stands o before now us Done fs printed fs' printed' h f p = absurd h
-refusal_stands o before now us (WriteFault slot) fs printed fs' printed' h f p = absurd h
-refusal_stands o before now us Memory fs printed fs' printed' h f p = inl (f, p)
-refusal_stands o before now us status fs printed fs' printed' h f p = (f, p)
+refusal_stands : (before now : Faults) (us : List Use) (status : Status) (fs : Files) (printed : Option (List ℕ)) (fs' : Option Files) (printed' : Option (List ℕ))
+    → IsRefusal us before now status → fs' ≡ Some fs → printed' ≡ printed → StopsBefore status fs printed fs' printed'
+refusal_stands before now us Done fs printed fs' printed' h f p = absurd h
+refusal_stands before now us (WriteFault slot) fs printed fs' printed' h f p = absurd h
+refusal_stands before now us status fs printed fs' printed' h f p = (f, p)
 
 refusal_means : (before now : Faults) (us : List Use) (status : Status) (command : Command) (fs : Files) (after : Option Files) → IsRefusal us before now status → DoneMeans status command fs after
 refusal_means before now us Done command fs after h = absurd h
@@ -53,9 +42,7 @@ refusal_means before now us status command fs after h = tt
 stands_refused : (command : Command) (o : Option Files) (before now : Faults) (us : List Use) (status : Status) (printed : Option (List ℕ)) (fs' : Option Files) (printed' : Option (List ℕ))
     → IsRefusal us before now status → fs' ≡ o → printed' ≡ printed → IfSome o (λ fs. SomeStands command status fs printed fs' printed')
 stands_refused command None before now us status printed fs' printed' h f p = tt
-stands_refused command (Some fs) before now us status printed fs' printed' h f p =
-    let outcome = some_outcome command (steps command fs) in
-    (outcome.0, outcome.1, refusal_stands outcome.0 before now us status fs printed fs' printed' h f p)
+stands_refused command (Some fs) before now us status printed fs' printed' h f p = inl (refusal_stands before now us status fs printed fs' printed' h f p)
 
 means_refused : (command : Command) (o after : Option Files) (before now : Faults) (us : List Use) (status : Status) → IsRefusal us before now status
     → IfSome o (λ fs. DoneMeans status command fs after)
@@ -105,11 +92,15 @@ MadeMeans (Canon input output) i fs = Unit {0}
 MadeMeans (Check formats shape) ds fs = Unit {0}
 MadeMeans (Run code input output budget) made fs = Unit {0}
 MadeMeans (Info input) i fs = Unit {0}
+MadeMeans (Compile formats shape source target output) ds fs = pair_in (content_of fs formats) source target ≡ Ok ds
 
 -- a file that was stored holds these bytes
 stored_content : (fs : Files) (name bytes : List ℕ) → content_of (stored name bytes fs) name ≡ bytes
 stored_content fs name bytes =
     ap (λ o. unwrap_or o []) (get-insert nat_list_cmp_total fs name bytes name ∙ ap (λ b. cond b (Some bytes) (get fs name)) ((eq_by_cmp_equiv nat_list_cmp_total).refl name))
+
+same_formats : (r : Result (List Declared) Status) (ds more : List Declared) → r ≡ Ok ds → r ≡ Ok more → ds ≡ more
+same_formats r ds more h k = cc
 
 output_means : (command : Command) (given : Given command) (o : Outcome) (fs : Files) → MadeMeans command given fs → Makes command given o → OutputMeans command fs (after_stores o.stores fs)
 output_means (Convert formats input chain output) made o fs h m =
@@ -119,6 +110,10 @@ output_means (Canon input output) i o fs h m = tt
 output_means (Check formats shape) ds o fs h m = tt
 output_means (Run code input output budget) made o fs h m = tt
 output_means (Info input) i o fs h m = tt
+output_means (Compile formats shape source target output) ds o fs h m =
+    subst (λ (o : Outcome). IsCompiled (Compile formats shape source target output) fs (content_of (after_stores o.stores fs) output)) (sym m.1)
+    (subst (IsCompiled (Compile formats shape source target output) fs) (sym (stored_content fs output m.0))
+    (λ more e. subst (λ (ds : List Declared). IsUnitOfPair ds shape m.0) (same_formats (pair_in (content_of fs formats) source target) ds more h e) m.2))
 
 done_means : (status : Status) (command : Command) (given : Given command) (o : Outcome) (fs : Files) (printed : Option (List ℕ)) (fs' : Option Files) (printed' : Option (List ℕ))
     → MadeMeans command given fs → Makes command given o → Stands o status fs printed fs' printed' → DoneMeans status command fs fs'
@@ -135,6 +130,7 @@ no_print (Check formats shape) given o h e = cc
 no_print (Convert formats input chain output) given o h e = cc
 no_print (Run code input output budget) given o h e = cc
 no_print (Info input) given o h e = cc
+no_print (Compile formats shape source target output) given o h e = ap (λ (o : Outcome). o.prints) h.1
 
 -- the calls of a command are its reads and those that make its outcome
 abbrev reads_of : Command → List Use
@@ -143,6 +139,7 @@ reads_of (Check formats shape) = reads Formats formats ∷ []
 reads_of (Convert formats input chain output) = reads Formats formats ∷ reads Input input ∷ []
 reads_of (Run code input output budget) = reads Code code ∷ reads Input input ∷ []
 reads_of (Info input) = reads Input input ∷ []
+reads_of (Compile formats shape source target output) = reads Formats formats ∷ []
 
 made_uses : (command : Command) (given : Given command) (o : Outcome) → Makes command given o → uses command ≡ reads_of command ++ writes o
 made_uses (Canon input output) given o h = ap (λ (o : Outcome). (reads Input input ∷ []) ++ writes o) (sym h)
@@ -150,6 +147,7 @@ made_uses (Check formats shape) given o h = ap (λ (o : Outcome). (reads Formats
 made_uses (Convert formats input chain output) given o h = ap (λ (o : Outcome). (reads Formats formats ∷ reads Input input ∷ []) ++ writes o) (sym h)
 made_uses (Run code input output budget) given o h = ap (λ (o : Outcome). (reads Code code ∷ reads Input input ∷ []) ++ writes o) (sym h)
 made_uses (Info input) given o h = ap (λ (o : Outcome). (reads Input input ∷ []) ++ writes o) (sym h)
+made_uses (Compile formats shape source target output) given o h = ap (λ (o : Outcome). (reads Formats formats ∷ []) ++ writes o) (sym h.1)
 
 -- what stands at the end of a command, between what the outside told when all steps had passed and tells now
 pub record Ends (o : Outcome) (middle now : Told) (status : Status) : Type 0 where
@@ -163,7 +161,7 @@ stands_done : (command : Command) (given : Given command) (o : Outcome) (fs : Op
     → IfSome fs (λ fs. SomeStands command status fs printed fs' printed')
 stands_done command given o None status printed middle fs' printed' e m p h = tt
 stands_done command given o (Some fs) status printed middle fs' printed' e m p h =
-    (o, made_outcome command given o (steps command fs) e m, subst (λ p. Stands o status fs p fs' printed') p h)
+    inr (o, made_outcome command given o (steps command fs) e m, subst (λ p. Stands o status fs p fs' printed') p h)
 
 -- a command whose steps have all passed
 pub done_run : (command : Command) (given : Given command) (o : Outcome) (before middle now : Told) (status : Status)
@@ -220,6 +218,7 @@ library_reads law (Check formats shape) (Some fs) = law (tokens_of (content_of f
 library_reads law (Convert formats input chain output) (Some fs) = law (tokens_of (content_of fs formats))
 library_reads law (Run code input output budget) (Some fs) = tt
 library_reads law (Info input) (Some fs) = tt
+library_reads law (Compile formats shape source target output) (Some fs) = law (tokens_of (content_of fs formats))
 
 pub all_library_reads : LibraryLaw → (command : Option Command) (o : Option Files) → IfSome command (λ command. IfSome o (LibraryReads command))
 all_library_reads law None o = tt

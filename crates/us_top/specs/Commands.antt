@@ -20,6 +20,7 @@ pub data Command : Type 0 where
   Convert : List ℕ → List ℕ → List ℕ → List ℕ → Command  -- the names of the library and of the input, the chain of formats, and the name of the output
   Run : List ℕ → List ℕ → List ℕ → ℕ → Command  -- the names of the code, of the input and of the output, and the most steps
   Info : List ℕ → Command  -- the name of the input
+  Compile : List ℕ → Shape → List ℕ → List ℕ → List ℕ → Command  -- the name of the library, a shape, the formats of the source and of the target, and the name of the output
 
 abbrev pub texts : List (String Global) → List (List ℕ)
 texts words = map (λ w. string_bytes w) words
@@ -62,6 +63,10 @@ hops_of chain = filter (λ w. not (is_text w)) (names_of chain)
 abbrev pub ends_in_text : List ℕ → Bool
 ends_in_text chain = list_any is_text (names_of chain)
 
+-- one name of a format: not empty, without a comma, and not `mtx`
+abbrev pub is_name : List ℕ → Bool
+is_name word = not (length word == 0) && (not (list_any (λ b. b == 44) word) && not (is_text word))
+
 -- ---- words behind the name of a command
 
 abbrev pub canon_of : List (List ℕ) → Option Command
@@ -75,6 +80,15 @@ check_on formats _ _ = None
 abbrev pub check_of : List (List ℕ) → Option Command
 check_of (formats ∷ rows ∷ cols ∷ []) = check_on formats (side_of rows) (side_of cols)
 check_of _ = None
+
+abbrev pub compile_on : List ℕ → Option ℕ → Option ℕ → List ℕ → List ℕ → List ℕ → Option Command
+compile_on formats (Some rows) (Some cols) source target output = Some (Compile formats (record { rows = rows; cols = cols }) source target output)
+compile_on formats _ _ source target output = None
+
+abbrev pub compile_of : List (List ℕ) → Option Command
+compile_of (formats ∷ rows ∷ cols ∷ source ∷ target ∷ output ∷ []) =
+    if is_name source && is_name target then compile_on formats (side_of rows) (side_of cols) source target output else None
+compile_of _ = None
 
 -- a listing is not written yet: its word is `-`
 abbrev pub convert_of : List (List ℕ) → Option Command
@@ -102,6 +116,7 @@ named name words =
     else if bytes_eq name (codes "convert") then convert_of words
     else if bytes_eq name (codes "run") then run_of words
     else if bytes_eq name (codes "info") then info_of words
+    else if bytes_eq name (codes "compile") then compile_of words
     else None
 
 -- the command that the words say, none where they say none
@@ -132,9 +147,11 @@ uses (Check formats shape) = reads Formats formats ∷ print_use ∷ []
 uses (Canon input output) = reads Input input ∷ stores Output output ∷ []
 uses (Convert formats input chain output) = reads Formats formats ∷ reads Input input ∷ stores Output output ∷ print_use ∷ []
 uses (Run code input output budget) = reads Code code ∷ reads Input input ∷ stores Output output ∷ print_use ∷ []
+uses (Compile formats shape source target output) = reads Formats formats ∷ stores Output output ∷ []
 uses (Info input) = reads Input input ∷ print_use ∷ []
 
 -- whether a command prints
 abbrev pub prints : Command → Bool
 prints (Canon input output) = false
+prints (Compile formats shape source target output) = false
 prints _ = true

@@ -1,4 +1,4 @@
--- What `convert` writes means the input.
+-- What `convert` writes means the input, and what `compile` writes is a right program.
 use Rattle.std.specs.Prelude.{◌≡◌, ℕ, List, [], ◌∷◌, Bool, true, false, Option, Some, IfSome, Ok}
 use Rattle.us_tokens.specs.Reading.{Means}
 use Rattle.us_matrix.specs.Map.{Map}
@@ -13,10 +13,11 @@ use Rattle.us_outside.specs.Files.{Files, content_of}
 use Rattle.us_top.specs.declared.status.Slot.TheVariants as slots
 use Rattle.us_top.specs.declared.status.Status.{Status}
 use Rattle.us_top.specs.declared.status.Status.TheVariants.{Done}
-use Rattle.us_top.specs.Commands.{Command, Check, Convert, ends_in_text}
+use Rattle.us_top.specs.Commands.{Command, Check, Convert, Compile, ends_in_text}
 use Rattle.us_top.specs.Library.{reading_of}
 use Rattle.us_top.specs.Steps.{Input, map_of, chain_in, input_at}
 use Rattle.us_top.specs.Converting.{buffers_on, kept_in}
+use Rattle.us_top.specs.Compiling.{IsUnitOfPair, pair_in}
 
 -- the bytes hold exactly the format's buffers of the matrix, by the definition of containers; and the meaning of the buffers, by the format's own definition, is the matrix
 pub record IsMeant (m : Map) (d : Declared) (bytes : List ℕ) : Type 0 where
@@ -37,9 +38,17 @@ MeansInput (Convert formats input chain output) fs bytes =
     → LastIsMeant (ends_in_text chain) (map_of i) ds bytes
 MeansInput _ fs bytes = Unit {0}
 
+-- the bytes that are compiled with these files are one unit: the target's declaration, and a right program
+abbrev pub IsCompiled : Command → Files → List ℕ → Type 0
+IsCompiled (Compile formats shape source target output) fs bytes =
+    (ds : List Declared) → pair_in (content_of fs formats) source target ≡ Ok ds → IsUnitOfPair ds shape bytes
+IsCompiled _ fs bytes = Unit {0}
+
 -- so of the output, in the files that there are afterwards
 abbrev pub OutputMeans : Command → Files → Files → Type 0
 OutputMeans (Convert formats input chain output) fs after = MeansInput (Convert formats input chain output) fs (content_of after output)
+OutputMeans (Compile formats shape source target output) fs after =
+    IsCompiled (Compile formats shape source target output) fs (content_of after output)
 OutputMeans _ fs after = Unit {0}
 
 -- where the command was done
@@ -57,4 +66,5 @@ ReadsByGrammar bytes = Means library_reader (tokens_of bytes) (reading_of bytes)
 abbrev pub LibraryReads : Command → Files → Type 0
 LibraryReads (Check formats shape) fs = ReadsByGrammar (content_of fs formats)
 LibraryReads (Convert formats input chain output) fs = ReadsByGrammar (content_of fs formats)
+LibraryReads (Compile formats shape source target output) fs = ReadsByGrammar (content_of fs formats)
 LibraryReads _ fs = Unit {0}

@@ -5,6 +5,7 @@ pub mod Steps
 pub mod Converting
 pub mod Running
 pub mod Info
+pub mod Compiling
 pub mod Outcome
 pub mod Answers
 pub mod Stands

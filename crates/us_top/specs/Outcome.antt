@@ -7,9 +7,10 @@ use Rattle.us_outside.specs.Files.{Files, content_of}
 use Rattle.us_top.specs.declared.status.Slot.{Slot}
 use Rattle.us_top.specs.declared.status.Slot.TheVariants as slots
 use Rattle.us_top.specs.declared.status.Status.{Status}
-use Rattle.us_top.specs.Commands.{Command, Canon, Check, Convert, Run, Info}
+use Rattle.us_top.specs.Commands.{Command, Canon, Check, Convert, Run, Info, Compile}
 use Rattle.us_top.specs.Steps.{Input, library_at, input_at, map_of, chain_in, status_of}
 use Rattle.us_top.specs.Converting.{Made, made_in}
+use Rattle.us_top.specs.Compiling.{IsUnitOfPair, pair_in}
 use Rattle.us_top.specs.Running.{run_in, unit_at}
 use Rattle.us_top.specs.Report.{report}
 use Rattle.us_top.specs.Info.{info_text}
@@ -24,6 +25,7 @@ Given (Check formats shape) = List Declared
 Given (Convert formats input chain output) = Made
 Given (Run code input output budget) = Made
 Given (Info input) = Input
+Given (Compile formats shape source target output) = List Declared
 
 -- the steps of a command, with these files
 abbrev pub steps : (command : Command) → Files → Result (Given command) Status
@@ -31,6 +33,7 @@ steps (Canon input output) fs = input_at slots.Input (content_of fs input)
 steps (Check formats shape) fs = library_at slots.Formats (content_of fs formats)
 steps (Convert formats input chain output) fs = made_in formats input chain fs
 steps (Run code input output budget) fs = run_in code input budget fs
+steps (Compile formats shape source target output) fs = pair_in (content_of fs formats) source target
 steps (Info input) fs = input_at slots.Input (content_of fs input)
 
 -- the answer of a command
@@ -48,6 +51,7 @@ reached (Canon input output) fs = slots.Input ∷ []
 reached (Check formats shape) fs = slots.Formats ∷ []
 reached (Convert formats input chain output) fs = slots.Formats ∷ behind (chain_in (content_of fs formats) chain) slots.Input
 reached (Run code input output budget) fs = slots.Code ∷ behind (unit_at (content_of fs code)) slots.Input
+reached (Compile formats shape source target output) fs = slots.Formats ∷ []
 reached (Info input) fs = slots.Input ∷ []
 
 -- ---- outcomes
@@ -58,12 +62,14 @@ output_of name bytes = record { slot = slots.Output; name = name; bytes = bytes 
 
 -- what a command may store and print, by what its steps have given:
 -- the canonical text of the input's matrix; a line for each declaration; the container in the last format, or the canonical text, and a line for each
--- format; the container of what the run gives, and its steps; what the input is
+-- format; the container of what the run gives, and its steps; what the input is; a unit of the two formats
 abbrev pub Makes : (command : Command) → Given command → Outcome → Type 0
 Makes (Canon input output) i o = o ≡ record { stores = output_of output (text (map_of i)) ∷ []; prints = None }
 Makes (Check formats shape) ds o = o ≡ record { stores = []; prints = Some (report shape ds) }
 Makes (Convert formats input chain output) made o = o ≡ record { stores = output_of output made.bytes ∷ []; prints = Some made.lines }
 Makes (Run code input output budget) made o = o ≡ record { stores = output_of output made.bytes ∷ []; prints = Some made.lines }
+Makes (Compile formats shape source target output) ds o =
+    (bytes : List ℕ) × (o ≡ record { stores = output_of output bytes ∷ []; prints = None }) × IsUnitOfPair ds shape bytes
 Makes (Info input) i o = o ≡ record { stores = []; prints = Some (info_text i) }
 
 -- where a step fails, nothing is stored and printed

@@ -125,13 +125,17 @@ judge_all k (d ∷ ds) = then_step (judged k (first_refusal (declaration_of d)))
 abbrev pub judged_all : List Declared → Result (List Declared) Status
 judged_all ds = then_step (judge_all 1 ds) (λ _. Ok ds)
 
--- the formats of a chain, by a library
+-- the formats of names, by a library
 abbrev pub formats_in : List Declared → List (List ℕ) → Result (List Declared) Status
 formats_in ds names = then_step (find_all ds 1 names) judged_all
 
--- the formats of a chain, by the library in a file: the library is read, then all names are found, then all are judged
+-- the formats of names, by the library in a file: the library is read, then all names are found, then all are judged
+abbrev pub named_in : List ℕ → List (List ℕ) → Result (List Declared) Status
+named_in bytes names = then_step (library_at Formats bytes) (λ ds. formats_in ds names)
+
+-- the formats of a chain
 abbrev pub chain_in : List ℕ → List ℕ → Result (List Declared) Status
-chain_in bytes chain = then_step (library_at Formats bytes) (λ ds. formats_in ds (hops_of chain))
+chain_in bytes chain = named_in bytes (hops_of chain)
 
 -- ---- sizes
 

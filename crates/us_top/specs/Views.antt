@@ -13,6 +13,7 @@ use Rattle.us_mm.specs.declared.reader.CoordinateReader.{CoordinateReader}
 use Rattle.us_mm.specs.Readers.{Stands, IsOut}
 use Rattle.us_format.specs.Matrix.{Shape}
 use Rattle.us_matrix.specs.declared.shape.Shape as code
+use Rattle.us_matrix.specs.Map.{IsSide}
 use Rattle.us_format.specs.Program.{shape_in, entries_in}
 use Rattle.us_check.specs.declared.held.Held.{Held}
 use Rattle.us_container.specs.Contained.{Contained}
@@ -31,7 +32,7 @@ use Rattle.us_top.specs.declared.conversion.Made as conversion
 use Rattle.us_top.specs.declared.input.Input as inputs
 use Rattle.us_top.specs.declared.input.Input.TheVariants.{File, Container}
 use Rattle.us_top.specs.declared.command.Command.{Command}
-use Rattle.us_top.specs.declared.command.Command.TheVariants.{Canon, Check, Convert, Run, Info}
+use Rattle.us_top.specs.declared.command.Command.TheVariants.{Canon, Check, Convert, Run, Info, Compile}
 
 abbrev pub shape_view : code.Shape → Shape
 shape_view s = record { rows = s.rows; cols = s.cols }
@@ -42,14 +43,16 @@ command_view (Check formats shape) = commands.Check formats.now (shape_view shap
 command_view (Convert formats input chain output) = commands.Convert formats.now input.now chain.now output.now
 command_view (Run code input output budget) = commands.Run code.now input.now output.now budget
 command_view (Info input) = commands.Info input.now
+command_view (Compile formats shape source target output) = commands.Compile formats.now (shape_view shape) source.now target.now output.now
 
--- rows and columns of a command are below 2^31, and a chain is one
+-- rows and columns of a command are below 2^31, from 1 on where a program is made for them, and a chain is one
 abbrev pub IsProper : Command → Type 0
 IsProper (Canon input output) = Unit {0}
 IsProper (Check formats shape) = (shape.rows < 2 ^ 31) × (shape.cols < 2 ^ 31)
 IsProper (Convert formats input chain output) = is_chain chain.now ≡ true
 IsProper (Run code input output budget) = Unit {0}
 IsProper (Info input) = Unit {0}
+IsProper (Compile formats shape source target output) = IsSide shape.rows × IsSide shape.cols
 
 -- words were read as the command that they say
 abbrev pub Says : Option Command → Option commands.Command → Type 0

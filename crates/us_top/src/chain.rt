@@ -1,7 +1,7 @@
 //! Chains of formats: names between commas.
 ghost use Rattle.std.specs.Prelude.{◌≡◌, ◌==◌, not, length, take, map, IfOk};
 ghost use Rattle.std.specs.List.{list_all, list_any};
-ghost use Rattle.us_top.specs.Commands.{names_of, is_text, is_chain, hops_of, ends_in_text};
+ghost use Rattle.us_top.specs.Commands.{names_of, is_text, is_chain, is_name, hops_of, ends_in_text};
 
 use std::alloc::{AllocError, Global};
 
@@ -34,6 +34,19 @@ fn has_text_before(chain: &str, count: usize) -> bool
     ensures { result ≡ list_any is_text (take count (names_of chain.now)) }
 {
     chain.split(',').take(count).any(|name| name == "mtx")
+}
+
+/// Whether the word is one name of a format: not empty, without a comma, and not `mtx`.
+pub fn is_name(word: &str) -> bool
+    ensures { result ≡ is_name word.now }
+{
+    !word.is_empty() && !has_comma(word) && word != "mtx"
+}
+
+fn has_comma(word: &str) -> bool
+    ensures { result ≡ list_any (λ b. b == 44) word.now }
+{
+    word.as_bytes().iter().any(|byte| *byte == b',')
 }
 
 /// Whether the chain ends in the canonical text.

@@ -1,9 +1,10 @@
 //! The words of the command line.
 ghost use Rattle.std.specs.Prelude.{◌≡◌, ◌<◌, ◌^◌, Some, None, IfSome, MatchOption};
-ghost use Rattle.us_top.specs.Commands.{texts, command_of, canon_of, check_of, convert_of, run_of, info_of, side_of, budget_of};
+ghost use Rattle.us_matrix.specs.Map.{IsSide};
+ghost use Rattle.us_top.specs.Commands.{texts, command_of, canon_of, check_of, compile_of, convert_of, run_of, info_of, side_of, budget_of};
 ghost use Rattle.us_top.specs.Views.{Says};
 
-use crate::chain::is_chain;
+use crate::chain::{is_chain, is_name};
 use us_matrix::Shape;
 use us_mm::number_of;
 
@@ -38,6 +39,14 @@ pub enum Command<'a> {
     Info {
         input: &'a str,
     },
+    /// Make the program that converts matrices of a shape from one format of a library to another.
+    Compile {
+        formats: &'a str,
+        shape: Shape,
+        source: &'a str,
+        target: &'a str,
+        output: &'a str,
+    },
 }
 
 /// The command that the words say, where they say one: its name, and its words behind it.
@@ -51,6 +60,7 @@ pub fn command_of(words: &[String]) -> Option<Command<'_>>
         "convert" => convert_of(words),
         "run" => run_of(words),
         "info" => info_of(words),
+        "compile" => compile_of(words),
         _ => None,
     }
 }
@@ -125,10 +135,34 @@ fn info_of(words: &[String]) -> Option<Command<'_>>
     })
 }
 
+fn compile_of(words: &[String]) -> Option<Command<'_>>
+    ensures { Says result (compile_of (texts words.now)) }
+{
+    let [formats, rows, cols, source, target, output] = words else {
+        return None;
+    };
+    if !is_name(source.as_str()) || !is_name(target.as_str()) {
+        return None;
+    }
+    let height = side(rows.as_str())?;
+    let width = side(cols.as_str())?;
+    Some(Command::Compile {
+        formats: formats.as_str(),
+        shape: Shape {
+            rows: height,
+            cols: width,
+        },
+        source: source.as_str(),
+        target: target.as_str(),
+        output: output.as_str(),
+    })
+}
+
 // Rows or columns: a number of at most 20 digits, from 1 to 2147483647.
 fn side(word: &str) -> Option<u32>
     ensures value { MatchOption result (side_of word.now ≡ None) (λ n. side_of word.now ≡ Some n) }
     ensures small { IfSome result (λ n. n < 2 ^ 31) }
+    ensures side { IfSome result IsSide }
 {
     let Some(number) = number_of(word.as_bytes()) else {
         return None;

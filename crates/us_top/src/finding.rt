@@ -1,4 +1,4 @@
-//! The formats of a chain, by a library.
+//! The formats of names, by a library.
 ghost use Rattle.std.specs.Prelude.{◌≡◌, ◌≤◌, ◌∷◌, [], All, Err, IfErr, IfOk, IfSome, MatchOption, None, OnOk, Some, length, map, true};
 ghost use Rattle.us_outside.specs.Causes.{NeverFell};
 ghost use Rattle.us_outside.specs.Files.{content_of};
@@ -7,8 +7,8 @@ ghost use Rattle.us_decl.specs.Views.{decl_view};
 ghost use Rattle.us_judge.specs.Acceptance.{first_refusal};
 ghost use Rattle.us_judge.specs.Views.{declaration_of};
 ghost use Rattle.us_top.specs.declared.status.Slot.TheVariants.{Formats};
-ghost use Rattle.us_top.specs.Commands.{is_chain, hops_of, reads};
-ghost use Rattle.us_top.specs.Steps.{chain_in, find, find_all, formats_in, judged, judged_all};
+ghost use Rattle.us_top.specs.Commands.{is_chain, reads};
+ghost use Rattle.us_top.specs.Steps.{chain_in, find, find_all, formats_in, judged, judged_all, named_in};
 ghost use Rattle.us_top.specs.Answers.{IsStep, IsRefusal, IsInnerRefusal};
 ghost use Rattle.us_top.specs.Views.{found_of, formats_of};
 
@@ -35,20 +35,38 @@ pub fn read_chain<O: Outside>(
     ensures printed { O.printed outside.new ≡ O.printed outside.old }
     ensures later { NeverFell (O.faults outside.old) (O.faults outside.new) }
 {
-    let library = read_library(alloc, outside, Slot::Formats, name)?;
-    formats_in(alloc, &library, chain)
+    let names = hops_of(alloc, chain)?;
+    read_formats(alloc, outside, name, &names)
 }
 
-// The formats of a chain, by a library.
-fn formats_in(alloc: Global, library: &Library, chain: &str) -> Result<Vec<Format>, Status>
-    requires chain { is_chain chain.now ≡ true }
+/// The formats of names, by the library in a file: the library is read, then all names are found, then all are judged.
+pub fn read_formats<O: Outside>(
+    alloc: Global,
+    outside: &mut O,
+    name: &str,
+    names: &[&str],
+) -> Result<Vec<Format>, Status>
+    requires { length names.now ≤ 64 }
+    ensures plain { IfSome (O.files outside.old) (λ fs. IsStep (named_in (content_of fs name.now) (map (λ n. n.now) names.now)) (formats_of result)) }
+    ensures count { IfOk result (λ v. length v.items ≡ length names.now) }
+    ensures refusal { IfErr result (IsRefusal (reads Formats name.now ∷ []) (O.faults outside.old) (O.faults outside.new)) }
+    ensures files { O.files outside.new ≡ O.files outside.old }
+    ensures printed { O.printed outside.new ≡ O.printed outside.old }
+    ensures later { NeverFell (O.faults outside.old) (O.faults outside.new) }
+{
+    let library = read_library(alloc, outside, Slot::Formats, name)?;
+    formats_in(alloc, &library, names)
+}
+
+// The formats of names, by a library.
+fn formats_in(alloc: Global, library: &Library, names: &[&str]) -> Result<Vec<Format>, Status>
+    requires few { length names.now ≤ 64 }
     requires valid { All (λ d. IsValid (decl_view d)) library.now }
-    ensures plain { IsStep (formats_in (map decl_view library.now) (hops_of chain.now)) (formats_of result) }
-    ensures few { IfOk result (λ v. length v.items ≤ 64) }
+    ensures plain { IsStep (formats_in (map decl_view library.now) (map (λ n. n.now) names.now)) (formats_of result) }
+    ensures count { IfOk result (λ v. length v.items ≡ length names.now) }
     ensures refusal { IfErr result IsInnerRefusal }
 {
-    let names = hops_of(alloc, chain)?;
-    let found = find_all(alloc, library, &names)?;
+    let found = find_all(alloc, library, names)?;
     judge_all(alloc, &found)
 }
 
@@ -61,7 +79,7 @@ fn find_all<'a>(
     requires few { length names.now ≤ 64 }
     requires valid { All (λ d. IsValid (decl_view d)) library.now }
     ensures plain { IsStep (find_all (map decl_view library.now) 1 (map (λ n. n.now) names.now)) (found_of result) }
-    ensures few { IfOk result (λ v. length v.items ≤ 64) }
+    ensures count { IfOk result (λ v. length v.items ≡ length names.now) }
     ensures valid { IfOk result (λ v. All (λ d. IsValid (decl_view d.now)) v.items) }
     ensures refusal { IfErr result IsInnerRefusal }
 {
@@ -93,7 +111,7 @@ fn judge_all(alloc: Global, found: &[&Decl]) -> Result<Vec<Format>, Status>
     requires few { length found.now ≤ 64 }
     requires valid { All (λ d. IsValid (decl_view d.now)) found.now }
     ensures plain { IsStep (judged_all (map (λ d. decl_view d.now) found.now)) (formats_of result) }
-    ensures few { IfOk result (λ v. length v.items ≤ 64) }
+    ensures count { IfOk result (λ v. length v.items ≡ length found.now) }
     ensures refusal { IfErr result IsInnerRefusal }
 {
     let mut formats = Vec::new(alloc);

@@ -5,6 +5,7 @@ mod canon;
 mod chain;
 mod check;
 mod command;
+mod compile;
 mod conversion;
 mod convert;
 mod ending;

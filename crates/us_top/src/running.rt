@@ -8,6 +8,7 @@ use crate::Status;
 use crate::canon::canon;
 use crate::check::check;
 use crate::command::{Command, command_of};
+use crate::compile::compile;
 use crate::convert::convert;
 use crate::info::info;
 use crate::run_code::run_code;
@@ -49,5 +50,14 @@ pub fn run<O: Outside>(alloc: Global, words: &[String], outside: &mut O) -> Stat
             },
         ) => run_code(alloc, outside, code, input, output, budget),
         Some(Command::Info { input }) => info(alloc, outside, input),
+        Some(
+            Command::Compile {
+                formats,
+                shape,
+                source,
+                target,
+                output,
+            },
+        ) => compile(alloc, outside, formats, shape, source, target, output),
     }
 }

@@ -21,3 +21,6 @@ returns-clause-value c =
     let short : length c.args.word.now ≤ 20 = omega (arith, c.if-word-gt20.false) in
     let small : c.in-Some.number ≤ 2147483647 = omega (arith, c.if-number-gt2147483647.false) in
     side_is c.args.word.now c.in-Some.number reads.0 reads.1 short c.if-number-eq0.false small
+
+pub returns-clause-side : goal.returns-clause-side
+returns-clause-side c = record { low = omega (arith, c.if-number-eq0.false); high = omega (arith, c.if-number-gt2147483647.false) }

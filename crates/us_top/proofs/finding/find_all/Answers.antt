@@ -18,5 +18,5 @@ pub returns-in_default-clause-plain : goal.returns-in_default-clause-plain
 returns-in_default-clause-plain c =
     finding_missing (map decl_view c.args.library.now) c.args.names.now c.loop-i.i _ c.loop-i.found.items c.loop-i-test.true c.in_default.ensures.found c.loop-i.invariant
 
-pub returns-clause-few : goal.returns-clause-few
-returns-clause-few c = omega (arith, c.loop-i.invariant.count, c.loop-i.auto.i-end, c.requires.few)
+pub returns-clause-count : goal.returns-clause-count
+returns-clause-count c = omega (arith, c.loop-i.invariant.count, c.loop-i.auto.i-end, c.loop-i-test.false)

@@ -2,7 +2,7 @@ use Rattle.std.proofs.Common.{◌≤◌, length, map, arith}
 use Rattle.std.proofs.lemmas.List.{length-map}
 use Rattle.std.proofs.lemmas.Result.{err_from_is_err_and}
 use Rattle.us_decl.specs.Views.{decl_view}
-use Rattle.us_top.proofs.FindingLemmas.{judging_none, judging_more, judging_refused, judging_all, judging_few}
+use Rattle.us_top.proofs.FindingLemmas.{judging_none, judging_more, judging_refused, judging_all, judging_count}
 use Rattle.us_top.proofs.finding.judge_all.Goals as goal
 
 pub loop-i-init : goal.loop-i-init
@@ -24,5 +24,5 @@ returns-clause-plain c =
     let behind : length (map (λ d. decl_view d.now) c.args.found.now) ≤ c.loop-i.i = omega (arith, length-map c.args.found.now (λ d. decl_view d.now), c.loop-i-test.false) in
     judging_all (map (λ d. decl_view d.now) c.args.found.now) c.loop-i.formats.items c.loop-i.i behind c.loop-i.invariant
 
-pub returns-clause-few : goal.returns-clause-few
-returns-clause-few c = judging_few c.args.found.now c.loop-i.formats.items c.loop-i.i c.loop-i-test.false c.requires.few c.loop-i.invariant
+pub returns-clause-count : goal.returns-clause-count
+returns-clause-count c = judging_count c.args.found.now c.loop-i.formats.items c.loop-i.i c.loop-i-test.false c.loop-i.invariant
