@@ -1,7 +1,7 @@
 //! Small matrices in each of the worked formats and a few more: the buffers, which were worked out by hand, and what is read of them.
 
 use crate::containers::{changed, container};
-use crate::runs::{answer, files, has_file, has_printed, is_answered, is_file};
+use crate::runs::{answer, files, has_file, has_hops, is_answered, is_file};
 use crate::samples::{
     AOS, BCSR, CISR, COO, CSC, CSR, DCSR, DIA, ELL, EMPTY, HEAVY, HYB, JDS, SAMPLE, TIED, TRI,
 };
@@ -306,7 +306,7 @@ fn is_stored(alloc: Global, matrix: &str, case: &Case) -> Result<bool, AllocErro
     let words = ["convert", "LIB", "A", case.name, "OUT", "-"];
     Ok(
         is_answered(alloc, &mut outside, &words, "ok")
-            && has_printed(&outside, case.printed.as_bytes())
+            && has_hops(&outside, case.printed)
             && is_file(&outside, "OUT", wanted.as_slice())
             && is_answered(alloc, &mut outside, &["canon", "OUT", "OUT"], "ok")
             && is_file(&outside, "OUT", matrix.as_bytes()),

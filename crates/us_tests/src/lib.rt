@@ -15,6 +15,8 @@ mod declarations;
 #[cfg(test)]
 mod formats;
 #[cfg(test)]
+mod listings;
+#[cfg(test)]
 mod matrix_files;
 #[cfg(test)]
 mod queries;

@@ -39,6 +39,36 @@ pub fn has_printed(outside: &MemoryOutside, text: &[u8]) -> bool {
     outside.printed() == text
 }
 
+/// Whether a line is the name and the size of a hop, with a number of steps behind; nothing where there is no hop.
+fn is_hop(line: &str, hop: &str) -> bool {
+    if hop.is_empty() {
+        return line.is_empty();
+    }
+    match line.strip_prefix(hop) {
+        Some(steps) => steps.len() > 1 && steps.as_bytes()[0] == b' ',
+        None => false,
+    }
+}
+
+/// Whether the names and sizes of these hops were printed, a line for each, with its number of steps behind.
+pub fn has_hops(outside: &MemoryOutside, hops: &str) -> bool {
+    let Ok(text) = str::from_utf8(outside.printed()) else {
+        return false;
+    };
+    let mut wanted = hops.split('\n');
+    for line in text.split('\n') {
+        match wanted.next() {
+            Some(hop) => {
+                if !is_hop(line, hop) {
+                    return false;
+                }
+            }
+            None => return false,
+        }
+    }
+    wanted.next().is_none()
+}
+
 /// Whether a file has these bytes.
 pub fn is_file(outside: &MemoryOutside, name: &str, bytes: &[u8]) -> bool {
     match outside.file(name) {

@@ -1,5 +1,5 @@
 -- The unit of a pair of formats.
-use Rattle.std.proofs.Common.{◌≡◌, ℕ, List, [], ◌∷◌, length, Ok, sym, ap, ◌∙◌, subst}
+use Rattle.std.proofs.Common.{◌≡◌, ℕ, List, [], ◌∷◌, Ok, sym, ap, ◌∙◌, subst}
 use Rattle.us_code.specs.Plain.{ProgramTree}
 use Rattle.us_format.specs.Matrix.{Shape}
 use Rattle.us_decl.specs.Declares.{Declared}

@@ -14,3 +14,5 @@ pub mod ReportLemmas
 pub mod RunCodeLemmas
 pub mod RunLemmas
 pub mod CompileLemmas
+pub mod ConversionMeans
+pub mod JourneyLemmas

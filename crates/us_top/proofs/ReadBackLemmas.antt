@@ -3,7 +3,7 @@ use Rattle.std.proofs.Common.{◌≡◌, ℕ, ◌<◌, ◌^◌, List, length, sy
 use Rattle.std.specs.Prelude.{All, FitsSigned, None, Ok, Some}
 use Rattle.std.specs.Int.{w64}
 use Rattle.std.proofs.lemmas.List.{length-map}
-use Rattle.us_matrix.specs.Map.{Map, IsMatrix}
+use Rattle.us_matrix.specs.Map.{IsMatrix}
 use Rattle.us_format.specs.Program.{shape_in, entries_in}
 use Rattle.us_format.specs.Packs.{written}
 use Rattle.us_format.specs.Buffers.{all_buffers, parts_of}
@@ -11,7 +11,7 @@ use Rattle.us_format.specs.Meaning.{meaning}
 use Rattle.us_format.specs.Reading.{total_count}
 use Rattle.us_format.proofs.FromProgram.{program-matrix}
 use Rattle.us_format.proofs.Whole.{buffers-are-counted}
-use Rattle.us_decl.specs.Declares.{Declared, IsValid}
+use Rattle.us_decl.specs.Declares.{IsValid}
 use Rattle.us_judge.specs.Acceptance.{first_refusal}
 use Rattle.us_judge.specs.Views.{declaration_of}
 use Rattle.us_judge.proofs.LawfulDeclarations.{accepted-declaration}
@@ -50,10 +50,7 @@ held_means h held back = record {
   means = subst (λ bufs. meaning (shape_in h.matrix) (declaration_of h.declared) bufs ≡ Some (entries_in h.matrix)) held.built held.means;
 }
 
--- the container of a matrix in a format
-pub container_means : (h : Held) (d : Declared) (m : Map) (bytes : List ℕ) → IsHeld h → h.declared ≡ d → h.matrix ≡ m
-    → bytes ≡ container_bytes h.declared h.matrix.rows h.matrix.cols h.buffers → contained_in (container_bytes h.declared h.matrix.rows h.matrix.cols h.buffers) ≡ Ok (contained_of h)
-    → IsMeant m d bytes
-container_means h d m bytes held e f is back =
-    subst (λ m. IsMeant m d bytes) f
-    (subst (λ d. IsMeant h.matrix d bytes) e (subst (λ bytes. IsMeant h.matrix h.declared bytes) (sym is) (held_means h held back)))
+-- the container of what is held
+pub container_means : (h : Held) (bytes : List ℕ) → IsHeld h → bytes ≡ container_bytes h.declared h.matrix.rows h.matrix.cols h.buffers
+    → contained_in (container_bytes h.declared h.matrix.rows h.matrix.cols h.buffers) ≡ Ok (contained_of h) → IsMeant h.matrix h.declared bytes
+container_means h bytes held is back = subst (λ bytes. IsMeant h.matrix h.declared bytes) (sym is) (held_means h held back)

@@ -1,25 +1,25 @@
 -- The ways in which a command ends, as runs of it.
-use Rattle.std.proofs.Common.{◌≡◌, ℕ, cond, unwrap_or, ◌++◌, List, [], ◌∷◌, Option, Some, None, IfSome, Result, Ok, Err, false, refl, sym, ap, ap₂, ◌∙◌, subst, inl, inr}
-use Rattle.std.specs.FinMap.{get, get-insert}
-use Rattle.std.specs.Cmp.Lexicographic.{nat_list_cmp_total}
-use Rattle.std.proofs.lemmas.Cmp.{eq_by_cmp_equiv}
+use Rattle.std.proofs.Common.{◌≡◌, ℕ, ◌++◌, List, [], ◌∷◌, map, Option, Some, None, IfSome, Result, Ok, Err, false, refl, sym, ap, ap₂, ◌∙◌, subst, inl, inr}
 use Rattle.us_outside.specs.Causes.{Faults, NeverFell}
-use Rattle.us_outside.specs.Files.{Files, content_of, stored}
+use Rattle.us_outside.specs.Files.{Files, content_of}
 use Rattle.us_parse.specs.Laws.{LibraryLaw}
 use Rattle.us_parse.specs.Parses.{tokens_of}
 use Rattle.us_top.specs.declared.status.Slot.{Slot}
-use Rattle.us_top.specs.declared.status.Slot.TheVariants.{Formats, Input, Code}
+use Rattle.us_top.specs.declared.status.Slot.TheVariants.{Formats, Input, Code, Output}
 use Rattle.us_top.specs.declared.status.Status.{Status}
 use Rattle.us_top.specs.declared.status.Status.TheVariants.{Done, WriteFault, Memory}
-use Rattle.us_top.specs.Commands.{Command, Canon, Check, Convert, Run, Info, Compile, Use, prints, reads, uses}
+use Rattle.us_top.specs.Commands.{Command, Canon, Check, Convert, Run, Info, Compile, Use, listing_uses, print_use, prints, reads, stores, uses}
 use Rattle.us_decl.specs.Declares.{Declared}
 use Rattle.us_top.specs.Compiling.{IsUnitOfPair, pair_in}
-use Rattle.us_top.specs.Steps.{status_of}
-use Rattle.us_top.specs.Outcome.{Given, Makes, MayMake, plain_status, reached, steps}
-use Rattle.us_top.specs.Answers.{IsAnswer, IsCaused, IsPlainOrMemory, IsRefusal, IsStep, NoneRose, writes}
+use Rattle.us_top.specs.Steps.{chain_in, input_at, map_of, status_of}
+use Rattle.us_top.specs.Converting.{written}
+use Rattle.us_top.specs.Hops.{Hop}
+use Rattle.us_top.specs.Outcome.{Given, IsListed, Makes, MayMake, plain_status, reached, steps}
+use Rattle.us_top.specs.Answers.{IsAnswer, IsCaused, IsPlainOrMemory, IsRefusal, IsStep, NoneRose, store_use, writes}
 use Rattle.us_top.specs.Stands.{Outcome, Stands, Store, after_stores}
 use Rattle.us_top.specs.Headline.{IsCompiled, MeansInput, OutputMeans, DoneMeans, LibraryReads}
 use Rattle.us_top.specs.Runs.{IsRun, SomeStands, StopsBefore, Told}
+use Rattle.us_top.proofs.ConversionMeans.{conversion_means, same_ok, stored_content}
 use Rattle.us_top.proofs.AnswerLemmas.{both, end_answer, end_caused, end_words, plain_or_memory, refusal_caused, refusal_words, step_answer}
 
 complete_by : (command : Command) (o : Option Files) (before now : Faults) (status : Status) → IsCaused (uses command) before now status
@@ -87,25 +87,19 @@ memory_run command before now f p = refused_run command before now [] (uses comm
 
 -- what a command has made means its input
 abbrev pub MadeMeans : (command : Command) → Given command → Files → Type 0
-MadeMeans (Convert formats input chain output) made fs = MeansInput (Convert formats input chain output) fs made.bytes
+MadeMeans (Convert formats input chain output listing) c fs =
+    MeansInput (Convert formats input chain output listing) fs (written chain c.formats (map_of c.input))
+    × (chain_in (content_of fs formats) chain ≡ Ok c.formats) × (input_at Input (content_of fs input) ≡ Ok c.input)
 MadeMeans (Canon input output) i fs = Unit {0}
 MadeMeans (Check formats shape) ds fs = Unit {0}
 MadeMeans (Run code input output budget) made fs = Unit {0}
 MadeMeans (Info input) i fs = Unit {0}
 MadeMeans (Compile formats shape source target output) ds fs = pair_in (content_of fs formats) source target ≡ Ok ds
 
--- a file that was stored holds these bytes
-stored_content : (fs : Files) (name bytes : List ℕ) → content_of (stored name bytes fs) name ≡ bytes
-stored_content fs name bytes =
-    ap (λ o. unwrap_or o []) (get-insert nat_list_cmp_total fs name bytes name ∙ ap (λ b. cond b (Some bytes) (get fs name)) ((eq_by_cmp_equiv nat_list_cmp_total).refl name))
-
-same_formats : (r : Result (List Declared) Status) (ds more : List Declared) → r ≡ Ok ds → r ≡ Ok more → ds ≡ more
-same_formats r ds more h k = cc
-
 output_means : (command : Command) (given : Given command) (o : Outcome) (fs : Files) → MadeMeans command given fs → Makes command given o → OutputMeans command fs (after_stores o.stores fs)
-output_means (Convert formats input chain output) made o fs h m =
-    subst (λ (o : Outcome). MeansInput (Convert formats input chain output) fs (content_of (after_stores o.stores fs) output)) (sym m)
-    (subst (MeansInput (Convert formats input chain output) fs) (sym (stored_content fs output made.bytes)) h)
+output_means (Convert formats input chain output listing) c o fs h m =
+    subst (λ (o : Outcome). OutputMeans (Convert formats input chain output listing) fs (after_stores o.stores fs)) (sym m.is)
+    (conversion_means formats input chain output listing c fs m.hops m.more m.leads m.listed h.0 h.1 h.2)
 output_means (Canon input output) i o fs h m = tt
 output_means (Check formats shape) ds o fs h m = tt
 output_means (Run code input output budget) made o fs h m = tt
@@ -113,7 +107,7 @@ output_means (Info input) i o fs h m = tt
 output_means (Compile formats shape source target output) ds o fs h m =
     subst (λ (o : Outcome). IsCompiled (Compile formats shape source target output) fs (content_of (after_stores o.stores fs) output)) (sym m.1)
     (subst (IsCompiled (Compile formats shape source target output) fs) (sym (stored_content fs output m.0))
-    (λ more e. subst (λ (ds : List Declared). IsUnitOfPair ds shape m.0) (same_formats (pair_in (content_of fs formats) source target) ds more h e) m.2))
+    (λ more e. subst (λ (ds : List Declared). IsUnitOfPair ds shape m.0) (same_ok (pair_in (content_of fs formats) source target) ds more h e) m.2))
 
 done_means : (status : Status) (command : Command) (given : Given command) (o : Outcome) (fs : Files) (printed : Option (List ℕ)) (fs' : Option Files) (printed' : Option (List ℕ))
     → MadeMeans command given fs → Makes command given o → Stands o status fs printed fs' printed' → DoneMeans status command fs fs'
@@ -127,7 +121,7 @@ made_outcome command given o r e h = subst (λ r. MayMake command r o) (sym e) h
 no_print : (command : Command) (given : Given command) (o : Outcome) → Makes command given o → prints command ≡ false → o.prints ≡ None
 no_print (Canon input output) given o h e = ap (λ (o : Outcome). o.prints) h
 no_print (Check formats shape) given o h e = cc
-no_print (Convert formats input chain output) given o h e = cc
+no_print (Convert formats input chain output listing) given o h e = cc
 no_print (Run code input output budget) given o h e = cc
 no_print (Info input) given o h e = cc
 no_print (Compile formats shape source target output) given o h e = ap (λ (o : Outcome). o.prints) h.1
@@ -136,15 +130,22 @@ no_print (Compile formats shape source target output) given o h e = ap (λ (o : 
 abbrev reads_of : Command → List Use
 reads_of (Canon input output) = reads Input input ∷ []
 reads_of (Check formats shape) = reads Formats formats ∷ []
-reads_of (Convert formats input chain output) = reads Formats formats ∷ reads Input input ∷ []
+reads_of (Convert formats input chain output listing) = reads Formats formats ∷ reads Input input ∷ []
 reads_of (Run code input output budget) = reads Code code ∷ reads Input input ∷ []
 reads_of (Info input) = reads Input input ∷ []
 reads_of (Compile formats shape source target output) = reads Formats formats ∷ []
 
+-- the call that stores a listing
+listed_uses : (listing : Option (List ℕ)) (hops : List Hop) (more : List Store) → IsListed listing hops more → listing_uses listing ≡ map store_use more
+listed_uses None hops more h = ap (map store_use) (sym h)
+listed_uses (Some name) hops more h = ap (map store_use) (sym h.2)
+
 made_uses : (command : Command) (given : Given command) (o : Outcome) → Makes command given o → uses command ≡ reads_of command ++ writes o
 made_uses (Canon input output) given o h = ap (λ (o : Outcome). (reads Input input ∷ []) ++ writes o) (sym h)
 made_uses (Check formats shape) given o h = ap (λ (o : Outcome). (reads Formats formats ∷ []) ++ writes o) (sym h)
-made_uses (Convert formats input chain output) given o h = ap (λ (o : Outcome). (reads Formats formats ∷ reads Input input ∷ []) ++ writes o) (sym h)
+made_uses (Convert formats input chain output listing) given o h =
+    ap (λ us. reads Formats formats ∷ reads Input input ∷ stores Output output ∷ (us ++ (print_use ∷ []))) (listed_uses listing h.hops h.more h.listed)
+    ∙ ap (λ (o : Outcome). (reads Formats formats ∷ reads Input input ∷ []) ++ writes o) (sym h.is)
 made_uses (Run code input output budget) given o h = ap (λ (o : Outcome). (reads Code code ∷ reads Input input ∷ []) ++ writes o) (sym h)
 made_uses (Info input) given o h = ap (λ (o : Outcome). (reads Input input ∷ []) ++ writes o) (sym h)
 made_uses (Compile formats shape source target output) given o h = ap (λ (o : Outcome). (reads Formats formats ∷ []) ++ writes o) (sym h.1)
@@ -215,7 +216,7 @@ library_reads : LibraryLaw → (command : Command) (o : Option Files) → IfSome
 library_reads law command None = tt
 library_reads law (Canon input output) (Some fs) = tt
 library_reads law (Check formats shape) (Some fs) = law (tokens_of (content_of fs formats))
-library_reads law (Convert formats input chain output) (Some fs) = law (tokens_of (content_of fs formats))
+library_reads law (Convert formats input chain output listing) (Some fs) = law (tokens_of (content_of fs formats))
 library_reads law (Run code input output budget) (Some fs) = tt
 library_reads law (Info input) (Some fs) = tt
 library_reads law (Compile formats shape source target output) (Some fs) = law (tokens_of (content_of fs formats))

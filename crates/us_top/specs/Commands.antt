@@ -1,5 +1,5 @@
 -- The commands, the words that say them, and the calls of the outside that they may make.
-use Rattle.std.specs.Prelude.{ℕ, List, [], ◌∷◌, length, nat_le, nat_lt, not, ◌==◌, ◌&&◌, map, Option, Some, None, string_bytes, codes, if◌then◌else◌, Bool, true, false}
+use Rattle.std.specs.Prelude.{ℕ, List, [], ◌∷◌, ◌++◌, length, nat_le, nat_lt, not, ◌==◌, ◌&&◌, map, Option, Some, None, string_bytes, codes, if◌then◌else◌, Bool, true, false}
 use Rattle.std.specs.List.{slice_split, filter, list_all, list_any}
 use Rattle.std.specs.declared.string.String.{String}
 use Rattle.std.specs.declared.alloc.Global.{Global}
@@ -12,12 +12,13 @@ use Rattle.us_mm.specs.Words.{is_numeral}
 use Rattle.us_mm.specs.Reads.{is_side}
 use Rattle.std.specs.Str.Parse.{digits_value}
 use Rattle.us_top.specs.declared.status.Slot.{Slot}
-use Rattle.us_top.specs.declared.status.Slot.TheVariants.{Formats, Input, Code, Output, Print}
+use Rattle.us_top.specs.declared.status.Slot.TheVariants.{Formats, Input, Code, Output, Listing, Print}
 
 pub data Command : Type 0 where
   Canon : List ℕ → List ℕ → Command  -- the names of the input and of the output
   Check : List ℕ → Shape → Command  -- the name of the library, and a shape
-  Convert : List ℕ → List ℕ → List ℕ → List ℕ → Command  -- the names of the library and of the input, the chain of formats, and the name of the output
+  -- the names of the library and of the input, the chain of formats, and the names of the output and of the listing, if one is wanted
+  Convert : List ℕ → List ℕ → List ℕ → List ℕ → Option (List ℕ) → Command
   Run : List ℕ → List ℕ → List ℕ → ℕ → Command  -- the names of the code, of the input and of the output, and the most steps
   Info : List ℕ → Command  -- the name of the input
   Compile : List ℕ → Shape → List ℕ → List ℕ → List ℕ → Command  -- the name of the library, a shape, the formats of the source and of the target, and the name of the output
@@ -90,10 +91,13 @@ compile_of (formats ∷ rows ∷ cols ∷ source ∷ target ∷ output ∷ []) =
     if is_name source && is_name target then compile_on formats (side_of rows) (side_of cols) source target output else None
 compile_of _ = None
 
--- a listing is not written yet: its word is `-`
+-- the word `-` says that no listing is wanted
+abbrev pub listing_of : List ℕ → Option (List ℕ)
+listing_of word = if bytes_eq word (codes "-") then None else Some word
+
 abbrev pub convert_of : List (List ℕ) → Option Command
 convert_of (formats ∷ input ∷ chain ∷ output ∷ listing ∷ []) =
-    if is_chain chain && bytes_eq listing (codes "-") then Some (Convert formats input chain output) else None
+    if is_chain chain then Some (Convert formats input chain output (listing_of listing)) else None
 convert_of _ = None
 
 abbrev pub run_with : List ℕ → List ℕ → List ℕ → Option ℕ → Option Command
@@ -141,11 +145,17 @@ stores slot name = record { slot = slot; call = Store; name = name }
 abbrev pub print_use : Use
 print_use = record { slot = Print; call = outside.Print; name = [] }
 
+-- that of a listing
+abbrev pub listing_uses : Option (List ℕ) → List Use
+listing_uses None = []
+listing_uses (Some name) = stores Listing name ∷ []
+
 -- the calls that a command may make
 abbrev pub uses : Command → List Use
 uses (Check formats shape) = reads Formats formats ∷ print_use ∷ []
 uses (Canon input output) = reads Input input ∷ stores Output output ∷ []
-uses (Convert formats input chain output) = reads Formats formats ∷ reads Input input ∷ stores Output output ∷ print_use ∷ []
+uses (Convert formats input chain output listing) =
+    reads Formats formats ∷ reads Input input ∷ stores Output output ∷ (listing_uses listing ++ (print_use ∷ []))
 uses (Run code input output budget) = reads Code code ∷ reads Input input ∷ stores Output output ∷ print_use ∷ []
 uses (Compile formats shape source target output) = reads Formats formats ∷ stores Output output ∷ []
 uses (Info input) = reads Input input ∷ print_use ∷ []

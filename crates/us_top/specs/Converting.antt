@@ -1,7 +1,5 @@
--- What `convert` writes and prints.
-use Rattle.std.specs.Prelude.{ℕ, ℤ, List, [], ◌∷◌, ◌++◌, codes, if◌then◌else◌, Result, Ok}
-use Rattle.std.specs.List.{flat_map}
-use Rattle.std.specs.Fmt.{decimal}
+-- What `convert` starts from, and what it writes.
+use Rattle.std.specs.Prelude.{ℕ, ℤ, List, [], ◌∷◌, if◌then◌else◌, Result, Ok}
 use Rattle.us_matrix.specs.Map.{Map}
 use Rattle.us_mm.specs.Text.{text}
 use Rattle.us_format.specs.Program.{shape_in, entries_in}
@@ -14,7 +12,7 @@ use Rattle.us_outside.specs.Files.{Files, content_of}
 use Rattle.us_top.specs.declared.status.Status.{Status}
 use Rattle.us_top.specs.declared.status.Slot.TheVariants as slots
 use Rattle.us_top.specs.Commands.{ends_in_text}
-use Rattle.us_top.specs.Steps.{size_on, then_step, chain_in, input_at, map_of, within_limit}
+use Rattle.us_top.specs.Steps.{Input, then_step, chain_in, input_at, map_of, within_limit}
 
 -- the buffers of a format on a matrix
 abbrev pub buffers_on : Map → Declared → List (List ℤ)
@@ -38,27 +36,21 @@ last_container m (d ∷ e ∷ ds) = last_container m (e ∷ ds)
 abbrev pub written : List ℕ → List Declared → Map → List ℕ
 written chain ds m = if ends_in_text chain then text m else last_container m ds
 
--- the name of a format, a blank, its size on the matrix
-abbrev pub hop_line : Map → Declared → List ℕ
-hop_line m d = d.name ++ (codes " " ++ (decimal (size_on m d) ++ (10 ∷ [])))
-
--- a line for each hop
-abbrev pub hop_lines : Map → List Declared → List ℕ
-hop_lines m ds = flat_map (hop_line m) ds
-
 -- what is stored, and what is printed
 pub record Made : Type 0 where
   pub bytes : List ℕ
   pub lines : List ℕ
 
--- the lines of the hops, each within the limit
-abbrev pub lines_step : Map → List Declared → Result (List ℕ) Status
-lines_step m ds = then_step (within_limit m 1 ds) (λ _. Ok (hop_lines m ds))
+-- the formats of a chain, and the input
+pub record Chained : Type 0 where
+  pub formats : List Declared
+  pub input : Input
 
-abbrev pub made_step : List ℕ → List Declared → Map → Result Made Status
-made_step chain ds m = then_step (lines_step m ds) (λ lines. Ok (record { bytes = written chain ds m; lines = lines }))
+-- all formats are within the limit
+abbrev pub sized_step : List Declared → Input → Result Chained Status
+sized_step ds i = then_step (within_limit (map_of i) 1 ds) (λ _. Ok (record { formats = ds; input = i }))
 
--- what a conversion of these files makes
-unfoldable pub made_in : List ℕ → List ℕ → List ℕ → Files → Result Made Status
-made_in formats input chain fs =
-    then_step (chain_in (content_of fs formats) chain) (λ ds. then_step (input_at slots.Input (content_of fs input)) (λ i. made_step chain ds (map_of i)))
+-- the steps before a conversion with these files: the formats are found and judged, then the input is read, then all sizes are tested
+unfoldable pub chained_in : List ℕ → List ℕ → List ℕ → Files → Result Chained Status
+chained_in formats input chain fs =
+    then_step (chain_in (content_of fs formats) chain) (λ ds. then_step (input_at slots.Input (content_of fs input)) (sized_step ds))

@@ -1,5 +1,5 @@
--- What `convert` writes means the input, and what `compile` writes is a right program.
-use Rattle.std.specs.Prelude.{◌≡◌, ℕ, List, [], ◌∷◌, Bool, true, false, Option, Some, IfSome, Ok}
+-- What `convert` writes means the input, and what it lists and what `compile` writes are right programs.
+use Rattle.std.specs.Prelude.{◌≡◌, ◌≢◌, ℕ, List, [], ◌∷◌, Bool, true, false, Option, Some, None, IfSome, Ok}
 use Rattle.us_tokens.specs.Reading.{Means}
 use Rattle.us_matrix.specs.Map.{Map}
 use Rattle.us_format.specs.Program.{shape_in, entries_in}
@@ -17,6 +17,7 @@ use Rattle.us_top.specs.Commands.{Command, Check, Convert, Compile, ends_in_text
 use Rattle.us_top.specs.Library.{reading_of}
 use Rattle.us_top.specs.Steps.{Input, map_of, chain_in, input_at}
 use Rattle.us_top.specs.Converting.{buffers_on, kept_in}
+use Rattle.us_top.specs.Hops.{Hop, IsListingOf, LeadThrough}
 use Rattle.us_top.specs.Compiling.{IsUnitOfPair, pair_in}
 
 -- the bytes hold exactly the format's buffers of the matrix, by the definition of containers; and the meaning of the buffers, by the format's own definition, is the matrix
@@ -33,10 +34,22 @@ LastIsMeant false m (d ∷ e ∷ ds) bytes = LastIsMeant false m (e ∷ ds) byte
 
 -- the bytes that a conversion of these files writes: a container of the input's matrix reads back and means it
 abbrev pub MeansInput : Command → Files → List ℕ → Type 0
-MeansInput (Convert formats input chain output) fs bytes =
+MeansInput (Convert formats input chain output listing) fs bytes =
     (ds : List Declared) (i : Input) → chain_in (content_of fs formats) chain ≡ Ok ds → input_at slots.Input (content_of fs input) ≡ Ok i
     → LastIsMeant (ends_in_text chain) (map_of i) ds bytes
 MeansInput _ fs bytes = Unit {0}
+
+-- the bytes that a conversion of these files lists: the units of hops that lead the input through the formats of the chain, whose programs are right
+abbrev pub ListsHops : Command → Files → List ℕ → Type 0
+ListsHops (Convert formats input chain output listing) fs bytes =
+    (ds : List Declared) (i : Input) → chain_in (content_of fs formats) chain ≡ Ok ds → input_at slots.Input (content_of fs input) ≡ Ok i
+    → (hops : List Hop) × LeadThrough ds i hops × IsListingOf hops bytes
+ListsHops _ fs bytes = Unit {0}
+
+-- so of the listing, where one is wanted
+abbrev pub ListingMeans : Option (List ℕ) → Command → Files → Files → Type 0
+ListingMeans None command fs after = Unit {0}
+ListingMeans (Some name) command fs after = ListsHops command fs (content_of after name)
 
 -- the bytes that are compiled with these files are one unit: the target's declaration, and a right program
 abbrev pub IsCompiled : Command → Files → List ℕ → Type 0
@@ -44,9 +57,11 @@ IsCompiled (Compile formats shape source target output) fs bytes =
     (ds : List Declared) → pair_in (content_of fs formats) source target ≡ Ok ds → IsUnitOfPair ds shape bytes
 IsCompiled _ fs bytes = Unit {0}
 
--- so of the output, in the files that there are afterwards
+-- so of the output, in the files that there are afterwards; where the listing has its name, that file holds the listing
 abbrev pub OutputMeans : Command → Files → Files → Type 0
-OutputMeans (Convert formats input chain output) fs after = MeansInput (Convert formats input chain output) fs (content_of after output)
+OutputMeans (Convert formats input chain output listing) fs after =
+    (listing ≢ Some output → MeansInput (Convert formats input chain output listing) fs (content_of after output))
+    × ListingMeans listing (Convert formats input chain output listing) fs after
 OutputMeans (Compile formats shape source target output) fs after =
     IsCompiled (Compile formats shape source target output) fs (content_of after output)
 OutputMeans _ fs after = Unit {0}
@@ -65,6 +80,6 @@ ReadsByGrammar bytes = Means library_reader (tokens_of bytes) (reading_of bytes)
 -- so of the library that a command reads
 abbrev pub LibraryReads : Command → Files → Type 0
 LibraryReads (Check formats shape) fs = ReadsByGrammar (content_of fs formats)
-LibraryReads (Convert formats input chain output) fs = ReadsByGrammar (content_of fs formats)
+LibraryReads (Convert formats input chain output listing) fs = ReadsByGrammar (content_of fs formats)
 LibraryReads (Compile formats shape source target output) fs = ReadsByGrammar (content_of fs formats)
 LibraryReads _ fs = Unit {0}

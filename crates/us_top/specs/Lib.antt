@@ -3,6 +3,7 @@ pub mod Library
 pub mod Report
 pub mod Steps
 pub mod Converting
+pub mod Hops
 pub mod Running
 pub mod Info
 pub mod Compiling
@@ -11,5 +12,6 @@ pub mod Answers
 pub mod Stands
 pub mod Lines
 pub mod Views
+pub mod Journeys
 pub mod Headline
 pub mod Runs

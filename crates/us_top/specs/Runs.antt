@@ -40,6 +40,7 @@ pub record IsRun (command : Command) (before now : Told) (answer : Status) : Typ
   -- an allowed outcome stands, whole after `Done`, and up to the failing place after a failed write; after any other answer all may be as it was
   pub stands : IfSome before.files (λ fs. SomeStands command answer fs before.printed now.files now.printed)
   -- the bytes of the output of `convert` read back as a container, and its buffers mean the input's matrix, by the format's own definition;
-  -- those of `compile` read back as the target's declaration and a right program
+  -- those of its listing as the formats of the chain and right programs,
+  -- and those of `compile` as the target's declaration and a right program
   pub means : IfSome before.files (λ fs. DoneMeans answer command fs now.files)
   pub printed : prints command ≡ false → now.printed ≡ before.printed

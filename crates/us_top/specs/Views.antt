@@ -40,7 +40,7 @@ shape_view s = record { rows = s.rows; cols = s.cols }
 abbrev pub command_view : Command → commands.Command
 command_view (Canon input output) = commands.Canon input.now output.now
 command_view (Check formats shape) = commands.Check formats.now (shape_view shape)
-command_view (Convert formats input chain output) = commands.Convert formats.now input.now chain.now output.now
+command_view (Convert formats input chain output listing) = commands.Convert formats.now input.now chain.now output.now (option_map (λ l. l.now) listing)
 command_view (Run code input output budget) = commands.Run code.now input.now output.now budget
 command_view (Info input) = commands.Info input.now
 command_view (Compile formats shape source target output) = commands.Compile formats.now (shape_view shape) source.now target.now output.now
@@ -49,7 +49,7 @@ command_view (Compile formats shape source target output) = commands.Compile for
 abbrev pub IsProper : Command → Type 0
 IsProper (Canon input output) = Unit {0}
 IsProper (Check formats shape) = (shape.rows < 2 ^ 31) × (shape.cols < 2 ^ 31)
-IsProper (Convert formats input chain output) = is_chain chain.now ≡ true
+IsProper (Convert formats input chain output listing) = is_chain chain.now ≡ true
 IsProper (Run code input output budget) = Unit {0}
 IsProper (Info input) = Unit {0}
 IsProper (Compile formats shape source target output) = IsSide shape.rows × IsSide shape.cols

@@ -1,7 +1,8 @@
 //! The words of the command line.
 ghost use Rattle.std.specs.Prelude.{◌≡◌, ◌<◌, ◌^◌, Some, None, IfSome, MatchOption};
+ghost use Rattle.std.specs.Option.{option_map};
 ghost use Rattle.us_matrix.specs.Map.{IsSide};
-ghost use Rattle.us_top.specs.Commands.{texts, command_of, canon_of, check_of, compile_of, convert_of, run_of, info_of, side_of, budget_of};
+ghost use Rattle.us_top.specs.Commands.{texts, command_of, canon_of, check_of, compile_of, convert_of, listing_of, run_of, info_of, side_of, budget_of};
 ghost use Rattle.us_top.specs.Views.{Says};
 
 use crate::chain::{is_chain, is_name};
@@ -21,12 +22,14 @@ pub enum Command<'a> {
         formats: &'a str,
         shape: Shape,
     },
-    /// Convert a matrix through a chain of formats of a library, and keep it in the last one.
+    /// Convert a matrix through a chain of formats of a library, keep it in the last one, and list the programs that lead
+    /// there, if a listing is wanted.
     Convert {
         formats: &'a str,
         input: &'a str,
         chain: &'a str,
         output: &'a str,
+        listing: Option<&'a str>,
     },
     /// Run a unit of loop code on the buffers of a container, in at most so many steps.
     Run {
@@ -91,14 +94,13 @@ fn check_of(words: &[String]) -> Option<Command<'_>>
     })
 }
 
-// A listing is not written yet: its word is `-`.
 fn convert_of(words: &[String]) -> Option<Command<'_>>
     ensures { Says result (convert_of (texts words.now)) }
 {
     let [formats, input, chain, output, listing] = words else {
         return None;
     };
-    if !is_chain(chain.as_str()) || listing.as_str() != "-" {
+    if !is_chain(chain.as_str()) {
         return None;
     }
     Some(Command::Convert {
@@ -106,7 +108,18 @@ fn convert_of(words: &[String]) -> Option<Command<'_>>
         input: input.as_str(),
         chain: chain.as_str(),
         output: output.as_str(),
+        listing: listing_of(listing.as_str()),
     })
+}
+
+// The name of a listing. The word `-` says that none is wanted.
+fn listing_of(word: &str) -> Option<&str>
+    ensures { option_map (λ l. l.now) result ≡ listing_of word.now }
+{
+    if word == "-" {
+        return None;
+    }
+    Some(word)
 }
 
 fn run_of(words: &[String]) -> Option<Command<'_>>

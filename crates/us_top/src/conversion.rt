@@ -1,28 +1,28 @@
-//! What a conversion stores and prints.
-ghost use Rattle.std.specs.Prelude.{◌≡◌, ◌≤◌, ◌++◌, [], ◌∷◌, IfErr, IfOk, OnOk, Ok, codes, length};
-ghost use Rattle.std.specs.Fmt.{decimal};
-ghost use Rattle.us_format.specs.Reading.{limit};
+//! What a conversion stores, prints and lists.
+ghost use Rattle.std.specs.Prelude.{◌≡◌, ◌≤◌, Err, IfErr, IfOk, OnOk, Ok, length};
+ghost use Rattle.us_container.specs.Bytes.{container_bytes};
 ghost use Rattle.us_top.specs.Commands.{ends_in_text};
-ghost use Rattle.us_top.specs.Steps.{size_on, within_limit};
-ghost use Rattle.us_top.specs.Converting.{container_of, hop_line, hop_lines, lines_step, made_step, written};
+ghost use Rattle.us_top.specs.Steps.{map_of, within_limit};
+ghost use Rattle.us_top.specs.Converting.{written};
 ghost use Rattle.us_top.specs.Headline.{IsMeant, LastIsMeant};
+ghost use Rattle.us_top.specs.Hops.{held_as};
+ghost use Rattle.us_top.specs.Journeys.{IsAlong, IsConverted, IsInLast, IsMadeOf};
+ghost use Rattle.us_top.specs.Running.{held_step};
 ghost use Rattle.us_top.specs.Answers.{IsStep, IsInnerRefusal};
-ghost use Rattle.us_top.specs.Views.{bytes_of, made_of};
+ghost use Rattle.us_top.specs.declared.status.Status.TheVariants.{Memory};
+ghost use Rattle.us_top.specs.Views.{contained_of, input_view};
 
 use crate::Status;
 use crate::chain::ends_in_text;
+use crate::input::Input;
+use crate::journey::{Converted, Journey, go_along};
 use crate::read_back::reads_back;
-use itoa::Buffer;
+use crate::source::hold;
 use std::alloc::{AllocError, Global};
 use us_check::Held;
 use us_container::write_container;
 use us_judge::Format;
-use us_levels::{BuildFault, size_of};
-use us_matrix::Matrix;
 use us_mm::write_coordinate;
-
-/// The largest size of a format on a matrix.
-const LIMIT: u64 = 67108864;
 
 /// The bytes that are stored, and the lines that are printed.
 #[derive(Drop)]
@@ -31,86 +31,106 @@ pub struct Made {
     pub lines: Vec<u8>,
 }
 
-/// What the chain makes of a matrix: a line for each of its formats, which has to be within the limit, and the container in
-/// the last one, or the canonical text.
+/// What the chain makes of an input: it is held, goes through the formats, each of which has to be within the limit, and is
+/// written in the last one, or as canonical text.
 pub fn make(
     alloc: Global,
     chain: &str,
-    formats: Vec<Format>,
-    matrix: Matrix,
-) -> Result<Made, Status>
-    requires { length formats.items ≤ 64 }
-    ensures plain { IsStep (made_step chain.now formats.items matrix) (made_of result) }
-    ensures refusal { IfErr result IsInnerRefusal }
-    ensures means { IfOk result (λ made. LastIsMeant (ends_in_text chain.now) matrix formats.items made.bytes.items) }
-{
-    let lines = hop_lines(alloc, &formats, &matrix)?;
-    let bytes = written(alloc, chain, formats, matrix)?;
-    Ok(Made { bytes, lines })
-}
-
-// A line for each format, which has to be within the limit.
-fn hop_lines(alloc: Global, formats: &[Format], matrix: &Matrix) -> Result<Vec<u8>, Status>
+    formats: &[Format],
+    input: Input,
+    listed: bool,
+) -> Result<Converted, Status>
     requires { length formats.now ≤ 64 }
-    ensures plain { IsStep (lines_step matrix.now formats.now) (bytes_of result) }
+    ensures made { IfOk result (IsMadeOf chain.now listed (record { formats = formats.now; input = input_view input })) }
+    ensures within { OnOk result (within_limit (map_of (input_view input)) 1 formats.now ≡ Ok tt) }
+    ensures plain { IfErr result (λ s. held_step (input_view input) ≡ Ok (held_as (input_view input))
+        → IsStep (within_limit (map_of (input_view input)) 1 formats.now) (Err s)) }
     ensures refusal { IfErr result IsInnerRefusal }
-    ensures within { OnOk result (within_limit matrix.now 1 formats.now ≡ Ok tt) }
 {
-    let mut lines = Vec::new(alloc);
-    for (i, format) in formats.iter().enumerate() {
-        let size = size_of(alloc, format, matrix)?;
-        if size > LIMIT {
-            return Err(Status::TooLarge { hop: i as u32 + 1 });
-        }
-        push_line(&mut lines, format, size)?;
+    match hold(alloc, input) {
+        Ok(held) => convert_held(alloc, chain, formats, held, listed),
+        Err(status) => Err(status),
     }
-    Ok(lines)
 }
 
-// The name of a format and its size.
-fn push_line(lines: &mut Vec<u8>, format: &Format, size: u64) -> Result<(), AllocError>
-    ensures { OnOk result (lines.new.items ≡ lines.old.items ++ (format.now.name ++ (codes " " ++ (decimal size ++ 10 ∷ [])))) }
+// What the chain makes of a held matrix.
+fn convert_held(
+    alloc: Global,
+    chain: &str,
+    formats: &[Format],
+    held: Held,
+    listed: bool,
+) -> Result<Converted, Status>
+    requires { length formats.now ≤ 64 }
+    ensures made { IfOk result (IsConverted chain.now held.matrix (contained_of held) listed formats.now) }
+    ensures within { OnOk result (within_limit held.matrix 1 formats.now ≡ Ok tt) }
+    ensures plain { IfErr result (λ s. IsStep (within_limit held.matrix 1 formats.now) (Err s)) }
+    ensures refusal { IfErr result IsInnerRefusal }
 {
-    let mut buffer = Buffer::new();
-    lines.extend_from_slice(format.decl().name.as_str().as_bytes())?;
-    lines.push(b' ')?;
-    lines.extend_from_slice(buffer.format(size).as_bytes())?;
-    lines.push(b'\n')?;
-    Ok(())
+    let mut journey = Journey {
+        held,
+        lines: Vec::new(alloc),
+        listing: Vec::new(alloc),
+    };
+    match go_along(alloc, &mut journey, formats, listed) {
+        Ok(()) => finished(alloc, chain, formats, journey),
+        Err(status) => Err(status),
+    }
+}
+
+// What is stored, printed and listed behind the last hop.
+fn finished(
+    alloc: Global,
+    chain: &str,
+    formats: &[Format],
+    journey: Journey,
+) -> Result<Converted, Status>
+    requires { IsInLast journey.held.matrix formats.now journey.held }
+    ensures bytes { IfOk result (λ made. made.bytes.items ≡ written chain.now formats.now journey.held.matrix) }
+    ensures means { IfOk result (λ made. LastIsMeant (ends_in_text chain.now) journey.held.matrix formats.now made.bytes.items) }
+    ensures lines { IfOk result (λ made. made.lines.items ≡ journey.lines.items) }
+    ensures listing { IfOk result (λ made. made.listing.items ≡ journey.listing.items) }
+    ensures memory { IfErr result (λ s. s ≡ Memory) }
+{
+    let Journey {
+        held,
+        lines,
+        listing,
+    } = journey;
+    match written(alloc, chain, formats, &held) {
+        Ok(bytes) => Ok(Converted {
+            bytes,
+            lines,
+            listing,
+        }),
+        Err(_) => Err(Status::Memory),
+    }
 }
 
 // The container in the last format, or the canonical text.
 fn written(
     alloc: Global,
     chain: &str,
-    formats: Vec<Format>,
-    matrix: Matrix,
+    formats: &[Format],
+    held: &Held,
 ) -> Result<Vec<u8>, AllocError>
-    requires { within_limit matrix 1 formats.items ≡ Ok tt }
-    ensures bytes { IfOk result (λ v. v.items ≡ written chain.now formats.items matrix) }
-    ensures means { IfOk result (λ v. LastIsMeant (ends_in_text chain.now) matrix formats.items v.items) }
+    requires { IsInLast held.now.matrix formats.now held.now }
+    ensures bytes { IfOk result (λ v. v.items ≡ written chain.now formats.now held.now.matrix) }
+    ensures means { IfOk result (λ v. LastIsMeant (ends_in_text chain.now) held.now.matrix formats.now v.items) }
 {
-    if ends_in_text(chain) {
-        return write_coordinate(alloc, &matrix);
+    if ends_in_text(chain) || formats.is_empty() {
+        return write_coordinate(alloc, held.matrix());
     }
-    let mut formats = formats;
-    match formats.pop() {
-        Some(format) => container(alloc, format, matrix),
-        None => write_coordinate(alloc, &matrix),
-    }
+    container(alloc, held)
 }
 
-// The container of a matrix in a format.
-fn container(alloc: Global, format: Format, matrix: Matrix) -> Result<Vec<u8>, AllocError>
-    requires { size_on matrix format ≤ limit }
-    ensures bytes { IfOk result (λ v. v.items ≡ container_of matrix format) }
-    ensures means { IfOk result (λ v. IsMeant matrix format v.items) }
+// The container of what is held.
+fn container(alloc: Global, held: &Held) -> Result<Vec<u8>, AllocError>
+    ensures bytes { IfOk result (λ v. v.items ≡ container_bytes held.now.declared held.now.matrix.rows held.now.matrix.cols held.now.buffers) }
+    ensures means { IfOk result (λ v. IsMeant held.now.matrix held.now.declared v.items) }
 {
-    let held = match Held::of(alloc, format, matrix) {
-        Ok(held) => held,
-        Err(BuildFault::TooLarge) => unreachable!(),
-        Err(BuildFault::Memory) => return Err(AllocError),
-    };
-    reads_back(&held);
-    write_container(alloc, &held)
+    reads_back(held);
+    // so the buffers mean the matrix
+    let _ = held.buffers();
+    write_container(alloc, held)
 }

@@ -7,7 +7,7 @@ ghost use Rattle.us_top.specs.declared.status.Status.TheVariants.{Done};
 ghost use Rattle.us_top.specs.Commands.{stores};
 ghost use Rattle.us_top.specs.Stands.{Stands, StopsInStore, StopsInStores, after_stores};
 ghost use Rattle.us_top.specs.Answers.{IsAnswer, IsCaused, store_use, writes};
-ghost use Rattle.us_top.specs.Outcome.{output_of};
+ghost use Rattle.us_top.specs.Outcome.{listing_store, output_of};
 ghost use Rattle.us_top.specs.Views.{store_view, outcome_view};
 
 use crate::{Slot, Status};
@@ -28,6 +28,17 @@ impl<'a> Store<'a> {
     {
         Store {
             slot: Slot::Output,
+            name,
+            bytes,
+        }
+    }
+
+    /// The listing.
+    pub fn listing(name: &'a str, bytes: &'a [u8]) -> Store<'a>
+        ensures { store_view result ≡ listing_store name.now bytes.now }
+    {
+        Store {
+            slot: Slot::Listing,
             name,
             bytes,
         }

@@ -13,6 +13,7 @@ mod finding;
 mod info;
 mod info_lines;
 mod input;
+mod journey;
 mod line;
 mod matrix_file;
 mod read_back;

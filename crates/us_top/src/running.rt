@@ -39,8 +39,9 @@ pub fn run<O: Outside>(alloc: Global, words: &[String], outside: &mut O) -> Stat
                 input,
                 chain,
                 output,
+                listing,
             },
-        ) => convert(alloc, outside, formats, input, chain, output),
+        ) => convert(alloc, outside, formats, input, chain, output, listing),
         Some(
             Command::Run {
                 code,

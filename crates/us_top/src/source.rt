@@ -1,9 +1,9 @@
-//! The sources of `run`: the buffers of a container, or of a matrix file in the built-in format.
-ghost use Rattle.std.specs.Prelude.{◌≡◌, ◌∷◌, [], IfErr, IfSome};
+//! The sources of `run` and of the first hop of `convert`: the buffers of a container, or of a matrix file in the built-in format.
+ghost use Rattle.std.specs.Prelude.{◌≡◌, ◌∷◌, [], IfErr, IfOk, IfSome};
 ghost use Rattle.us_outside.specs.Causes.{NeverFell};
 ghost use Rattle.us_outside.specs.Files.{content_of};
 ghost use Rattle.us_top.specs.Commands.{reads};
-ghost use Rattle.us_top.specs.Steps.{OfFile, input_at, then_step};
+ghost use Rattle.us_top.specs.Steps.{OfFile, input_at, map_of, then_step};
 ghost use Rattle.us_top.specs.Running.{held_step};
 ghost use Rattle.us_top.specs.Answers.{IsStep, IsRefusal, IsInnerRefusal};
 ghost use Rattle.us_top.specs.Views.{input_view, source_of};
@@ -34,9 +34,10 @@ pub fn read_source<O: Outside>(
     hold(alloc, input)
 }
 
-// An input as it is held.
-fn hold(alloc: Global, input: Input) -> Result<Held, Status>
+/// An input as it is held: a matrix file in the built-in format, a container in its own.
+pub fn hold(alloc: Global, input: Input) -> Result<Held, Status>
     ensures plain { IsStep (held_step (input_view input)) (source_of result) }
+    ensures matrix { IfOk result (λ h. h.matrix ≡ map_of (input_view input)) }
     ensures refusal { IfErr result IsInnerRefusal }
 {
     match input {
@@ -48,6 +49,7 @@ fn hold(alloc: Global, input: Input) -> Result<Held, Status>
 // A matrix in the built-in format.
 fn hold_entries(alloc: Global, matrix: Matrix) -> Result<Held, Status>
     ensures plain { IsStep (held_step (OfFile matrix)) (source_of result) }
+    ensures matrix { IfOk result (λ h. h.matrix ≡ matrix) }
     ensures refusal { IfErr result IsInnerRefusal }
 {
     let format = entry_format(alloc)?;

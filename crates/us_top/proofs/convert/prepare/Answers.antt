@@ -1,12 +1,12 @@
-use Rattle.std.proofs.Common.{◌∷◌, [], Ok, Err}
+use Rattle.std.proofs.Common.{◌∷◌, [], Ok, Err, sym}
 use Rattle.std.proofs.lemmas.Option.{IfSome_then}
-use Rattle.std.proofs.lemmas.Result.{IfErr-weaker, IfOk-weaker, err_from_is_err_and}
+use Rattle.std.proofs.lemmas.Result.{IfErr-weaker, err_from_is_err_and}
 use Rattle.us_top.specs.declared.status.Slot.TheVariants.{Formats, Input}
 use Rattle.us_top.specs.Commands.{reads}
 use Rattle.us_top.specs.Views.{input_view}
 use Rattle.us_top.proofs.InputLemmas.{inner_refusal}
 use Rattle.us_top.proofs.AnswerLemmas.{both, refusal_before, refusal_behind, refusal_in_front}
-use Rattle.us_top.proofs.ConvertLemmas.{input_before, formats_end, formats_answer, input_ends, input_answer, make_plain, make_answer, means_behind}
+use Rattle.us_top.proofs.ConvertLemmas.{all_made, formats_answer, formats_end, input_answer, input_before, input_ends, make_answers, make_plain}
 use Rattle.us_top.proofs.convert.prepare.Goals as goal
 
 pub returns-in_err-formats-clause-plain : goal.returns-in_err-formats-clause-plain
@@ -60,30 +60,34 @@ returns-in_err-input-clause-refusal g c =
     (refusal_before before middle now (reads Formats c.args.formats.now ∷ input) c.in_err-input.field-0.0 c.in_ok-formats.ensures.later
     (refusal_behind middle now (reads Formats c.args.formats.now) input c.in_err-input.field-0.0 c.in_err-input.ensures.refusal))
 
+pub make-requires : goal.make-requires
+make-requires g c = rw c.deref.ensures.value c.in_ok-formats.ensures.few
+
+pub returns-clause-made : goal.returns-clause-made
+returns-clause-made g c =
+    all_made c.args.formats.now c.args.input.now c.args.chain.now c.args.listed (g.O.Outside.files c.args.outside.now) c.in_ok-formats.formats.items (input_view c.in_ok-input.input) c.make.result
+    c.in_ok-formats.ensures.plain
+    (input_before c.args.input.now (Ok (input_view c.in_ok-input.input)) _ _ c.in_ok-formats.ensures.files c.in_ok-input.ensures.plain)
+    (rw (sym c.deref.ensures.value) c.make.ensures.within)
+    (rw (sym c.deref.ensures.value) c.make.ensures.made)
+
 pub returns-clause-plain : goal.returns-clause-plain
 returns-clause-plain g c =
-    both (g.O.Outside.files c.args.outside.now) c.in_ok-formats.ensures.plain (input_before c.args.input.now (Ok (input_view c.in_ok-input.input)) _ _ c.in_ok-formats.ensures.files c.in_ok-input.ensures.plain)
-    (λ fs e h.
-    make_plain c.args.formats.now c.args.input.now c.args.chain.now fs c.in_ok-formats.formats.items (input_view c.in_ok-input.input) c.into_matrix.result c.make.result e h c.into_matrix.ensures
-    c.make.ensures.plain)
+    make_plain c.args.formats.now c.args.input.now c.args.chain.now (g.O.Outside.files c.args.outside.now) c.in_ok-formats.formats.items (input_view c.in_ok-input.input) c.make.result
+    c.in_ok-formats.ensures.plain
+    (input_before c.args.input.now (Ok (input_view c.in_ok-input.input)) _ _ c.in_ok-formats.ensures.files c.in_ok-input.ensures.plain)
+    (rw (sym c.deref.ensures.value) c.make.ensures.plain)
 
 pub returns-clause-answer : goal.returns-clause-answer
 returns-clause-answer g c =
-    both (g.O.Outside.files c.args.outside.now) c.in_ok-formats.ensures.plain (input_before c.args.input.now (Ok (input_view c.in_ok-input.input)) _ _ c.in_ok-formats.ensures.files c.in_ok-input.ensures.plain)
-    (λ fs e h.
-    make_answer c.args.formats.now c.args.input.now c.args.chain.now fs c.in_ok-formats.formats.items (input_view c.in_ok-input.input) c.into_matrix.result c.make.result e h c.into_matrix.ensures
-    c.make.ensures.plain c.make.ensures.refusal)
+    make_answers c.args.formats.now c.args.input.now c.args.chain.now (g.O.Outside.files c.args.outside.now) c.in_ok-formats.formats.items (input_view c.in_ok-input.input) c.make.result
+    c.in_ok-formats.ensures.plain
+    (input_before c.args.input.now (Ok (input_view c.in_ok-input.input)) _ _ c.in_ok-formats.ensures.files c.in_ok-input.ensures.plain)
+    (rw (sym c.deref.ensures.value) c.make.ensures.plain)
+    c.make.ensures.refusal
 
 pub returns-clause-refusal : goal.returns-clause-refusal
 returns-clause-refusal g c =
     IfErr-weaker c.make.result _ _
     (λ s h. inner_refusal (reads Formats c.args.formats.now ∷ reads Input c.args.input.now ∷ []) (g.O.Outside.faults c.args.outside.now) (g.O.Outside.faults c.read_input.new.outside) s h)
     c.make.ensures.refusal
-
-pub returns-clause-means : goal.returns-clause-means
-returns-clause-means g c =
-    both (g.O.Outside.files c.args.outside.now) c.in_ok-formats.ensures.plain (input_before c.args.input.now (Ok (input_view c.in_ok-input.input)) _ _ c.in_ok-formats.ensures.files c.in_ok-input.ensures.plain)
-    (λ fs e h.
-    IfOk-weaker c.make.result _ _
-    (λ made m. means_behind c.args.formats.now c.args.input.now c.args.chain.now [] fs c.in_ok-formats.formats.items (input_view c.in_ok-input.input) c.into_matrix.result made.bytes.items e h c.into_matrix.ensures m)
-    c.make.ensures.means)

@@ -1,5 +1,4 @@
-use Rattle.std.proofs.Common.{map, sym, subst}
-use Rattle.us_decl.specs.Views.{decl_view}
+use Rattle.std.proofs.Common.{sym, subst}
 use Rattle.us_top.specs.Answers.{IsStep}
 use Rattle.us_top.specs.Steps.{judged_all, then_step}
 use Rattle.us_top.specs.Views.{formats_of}

@@ -1,9 +1,8 @@
-use Rattle.std.proofs.Common.{◌≡◌, length, map, ap, sym, subst, ◌∙◌, arith, IfSome, IfOk}
+use Rattle.std.proofs.Common.{length, map, ap, subst, ◌∙◌, arith, IfSome}
 use Rattle.std.proofs.lemmas.List.{length-map}
 use Rattle.std.proofs.lemmas.Result.{IfOk-weaker}
 use Rattle.us_outside.specs.Files.{content_of}
 use Rattle.us_top.specs.Answers.{IsStep}
-use Rattle.us_top.specs.Commands.{hops_of}
 use Rattle.us_top.specs.Steps.{named_in}
 use Rattle.us_top.specs.Views.{formats_of}
 use Rattle.us_top.proofs.FindingLemmas.{few_hops}
