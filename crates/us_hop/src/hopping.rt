@@ -6,7 +6,8 @@ ghost use Rattle.us_format.specs.Program.{shape_in, entries_in};
 ghost use Rattle.us_format.specs.Reading.{limit};
 ghost use Rattle.us_judge.specs.Views.{declaration_of};
 ghost use Rattle.us_matrix.specs.Map.{IsSide};
-ghost use Rattle.us_right.specs.Right.{IsRight};
+ghost use Rattle.us_limits.specs.Orders.{HaveNoOrder};
+ghost use Rattle.us_right.specs.Right.{AreAlike, IsRight};
 ghost use Rattle.us_hop.specs.declared.fault.HopFault.TheVariants.{TooLarge};
 ghost use Rattle.us_hop.specs.Hops.{IsRunOf};
 
@@ -47,18 +48,22 @@ fn size_within(alloc: Global, format: &Format, matrix: &Matrix) -> Result<u64, H
     Ok(size)
 }
 
-/// A program from the format of a held matrix to another, right for every matrix of its shape. It fails only for want of memory.
+/// A program from the format of a held matrix to another, right for every matrix of its shape, without `order` between formats
+/// that are alike. It fails only for want of memory.
 fn program_to(alloc: Global, held: &Held, to: &Format) -> Result<Verified, AllocError>
-    ensures { IfOk result (λ v. IsRight (program_tree v) (declaration_of held.now.declared) (declaration_of to.now) (shape_in held.now.matrix)) }
+    ensures right { IfOk result (λ v. IsRight (program_tree v) (declaration_of held.now.declared) (declaration_of to.now) (shape_in held.now.matrix)) }
+    ensures unsorted { IfOk result (λ v. AreAlike (declaration_of held.now.declared) (declaration_of to.now) → HaveNoOrder (program_tree v).phases) }
 {
     let shape = held.matrix().shape();
     compile(alloc, held.format(), to, shape)
 }
 
 /// The matrix in another format: its buffers are the run of a program on the old ones, and the program is right for both formats and
-/// every matrix of the shape. It is too large exactly where the size of the other format on it is above the limit of 67108864.
+/// every matrix of the shape. Between formats of one part each, without queries and with the same levels, it has no `order`.
+/// It is too large exactly where the size of the other format on the matrix is above the limit of 67108864.
 pub fn hop(alloc: Global, held: &Held, to: &Format) -> Result<Hopped, HopFault>
     ensures right { IfOk result (λ h. IsRight (program_tree h.code) (declaration_of held.now.declared) (declaration_of to.now) (shape_in held.now.matrix)) }
+    ensures unsorted { IfOk result (λ h. AreAlike (declaration_of held.now.declared) (declaration_of to.now) → HaveNoOrder (program_tree h.code).phases) }
     ensures run { IfOk result (λ h. IsRunOf (program_tree h.code) held.now.buffers h.held.buffers h.steps) }
     ensures format { IfOk result (λ h. h.held.declared ≡ to.now) }
     ensures matrix { IfOk result (λ h. h.held.matrix ≡ held.now.matrix) }
