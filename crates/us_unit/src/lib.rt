@@ -8,6 +8,7 @@ mod reading;
 mod unit;
 
 pub use listing::{listings_read_back, push_unit};
+pub use names::program_is_named;
 pub use printing::print_unit;
 pub use reading::parse_unit;
 pub use unit::OneUnit;

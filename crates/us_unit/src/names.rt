@@ -5,7 +5,7 @@ ghost use Rattle.us_code_print.specs.ReadBack.{GivenElse, IsNamed, Named, NamedB
 
 use us_code::{Block, Buf, DimLine, Make, Phase, Program, Stmt, Term};
 
-/// So are those of a whole program.
+/// The numbers of the names in a program are numbers of 32 bits, so that its text names what the program names.
 pub fn program_is_named(program: &Program)
     ensures { IsNamed (program_tree program.now) }
 {
