@@ -1,5 +1,5 @@
 -- Rows and columns, as words of a command line.
-use Rattle.std.proofs.Common.{◌≡◌, ◌≢◌, ◌==◌, not, ℕ, ◌-◌, ◌<◌, ◌≤◌, ◌^◌, ◌&&◌, ◌⊎◌, nat_le, nat_lt, min, Bool, true, false, cond, List, length, Some, None, Ok, Err, refl, sym, ap, ◌∙◌, inl, inr, arith}
+use Rattle.std.proofs.Common.{◌≡◌, ◌≢◌, ◌==◌, not, ℕ, ◌-◌, ◌<◌, ◌≤◌, ◌^◌, ◌&&◌, ◌⊎◌, nat_le, nat_lt, min, Bool, true, false, cond, List, length, Option, Some, None, Ok, Err, refl, sym, ap, ◌∙◌, inl, inr, arith}
 use Rattle.std.proofs.lemmas.Bool.{cases_lt}
 use Rattle.std.proofs.lemmas.Bool.Decides.{nat_tests}
 use Rattle.std.specs.Str.Parse.{ParsesUnsigned, digits_value}
@@ -7,7 +7,7 @@ use Rattle.std.specs.Str.{all_ascii_digits}
 use Rattle.std.proofs.lemmas.Str.Parse.{IsNumeralModel, numerals_by_value, parse_digits, tells_all_ascii_digits}
 use Rattle.us_mm.specs.Words.{is_numeral}
 use Rattle.us_mm.specs.Reads.{is_side}
-use Rattle.us_top.specs.Commands.{budget_of, side_of}
+use Rattle.us_top.specs.Commands.{between, budget_of, count_of, seed_of, side_of}
 
 pub no_digits : (w : List ℕ) → is_numeral w ≡ false → side_of w ≡ None
 unfolding side_of
@@ -34,8 +34,6 @@ side_is w n h e short some small = side_by w true h (is_in (length w) (digits_va
 
 pub no_side : (w : List ℕ) (n : ℕ) → is_numeral w ≡ true → n ≡ min (digits_value 10 w) (2 ^ 64 - 1) → (20 < length w) ⊎ ((n ≡ 0) ⊎ (2147483647 < n)) → side_of w ≡ None
 no_side w n h e out = side_by w false h (is_out (length w) (digits_value 10 w) n e out)
-
--- ---- the most steps
 
 budget_by : (w : List ℕ) (a b : Bool) → is_numeral w ≡ a → (nat_le (length w) 20 && nat_lt (digits_value 10 w) 18446744073709551616) ≡ b → budget_of w ≡ cond (a && b) (Some (digits_value 10 w)) None
 unfolding budget_of
@@ -91,3 +89,42 @@ steps_unparsed w h p =
       | inr ge ↦ ge
     ] in
     none_by w true h (too_many (length w) (digits_value 10 w) many)
+
+-- ---- numbers between two others
+
+abbrev told : Bool → ℕ → Option ℕ
+told b n = cond b (Some n) None
+
+inside : (low high n : ℕ) → low ≤ n → n ≤ high → (nat_le low n && nat_le n high) ≡ true
+inside low high n h k = grind (arith, nat_tests)
+
+below : (low high n : ℕ) → n < low → (nat_le low n && nat_le n high) ≡ false
+below low high n h = grind (arith, nat_tests)
+
+above : (low high n : ℕ) → high < n → (nat_le low n && nat_le n high) ≡ false
+above low high n h = grind (arith, nat_tests)
+
+none_between : (low high : ℕ) (w : List ℕ) → budget_of w ≡ None → between low high (budget_of w) ≡ None
+none_between low high w h = ap (between low high) h
+
+some_between : (low high : ℕ) (w : List ℕ) (n : ℕ) (b : Bool) → budget_of w ≡ Some n → (nat_le low n && nat_le n high) ≡ b → between low high (budget_of w) ≡ told b n
+some_between low high w n b h k = ap (between low high) h ∙ ap (λ b. told b n) k
+
+pub no_seed : (w : List ℕ) → budget_of w ≡ None → seed_of w ≡ None
+no_seed w h = none_between 1 2147483646 w h
+
+pub seed_out : (w : List ℕ) (n : ℕ) → budget_of w ≡ Some n → (n < 1) ⊎ (2147483646 < n) → seed_of w ≡ None
+seed_out w n h (inl k) = some_between 1 2147483646 w n false h (below 1 2147483646 n k)
+seed_out w n h (inr k) = some_between 1 2147483646 w n false h (above 1 2147483646 n k)
+
+pub seed_is : (w : List ℕ) (n : ℕ) → budget_of w ≡ Some n → 1 ≤ n → n ≤ 2147483646 → seed_of w ≡ Some n
+seed_is w n h low high = some_between 1 2147483646 w n true h (inside 1 2147483646 n low high)
+
+pub no_count : (w : List ℕ) → budget_of w ≡ None → count_of w ≡ None
+no_count w h = none_between 0 8388608 w h
+
+pub count_out : (w : List ℕ) (n : ℕ) → budget_of w ≡ Some n → 8388608 < n → count_of w ≡ None
+count_out w n h k = some_between 0 8388608 w n false h (above 0 8388608 n k)
+
+pub count_is : (w : List ℕ) (n : ℕ) → budget_of w ≡ Some n → n ≤ 8388608 → count_of w ≡ Some n
+count_is w n h high = some_between 0 8388608 w n true h (inside 0 8388608 n (omega arith) high)

@@ -6,10 +6,10 @@ use Rattle.us_check.specs.declared.held.Held.{Held}
 use Rattle.std.specs.Prelude.{codes}
 use Rattle.us_format.specs.Reading.{limit}
 use Rattle.us_check.specs.Held.{IsHeld}
-use Rattle.us_top.specs.Steps.{OfContainer, size_on}
-use Rattle.us_top.specs.Views.{contained_of}
+use Rattle.us_inputs.specs.Steps.{OfContainer, size_on}
+use Rattle.us_inputs.specs.Views.{contained_of}
 use Rattle.us_top.specs.Info.{info_text, sides_text, buffer_lines, spaced}
-use Rattle.us_top.proofs.InputLemmas.{held_matrix}
+use Rattle.us_inputs.proofs.InputLemmas.{held_matrix}
 
 regrouped : (d s more : List ℕ) → (d ++ (s ++ (10 ∷ []))) ++ more ≡ d ++ (s ++ (10 ∷ more))
 regrouped d s more = append_assoc d (s ++ (10 ∷ [])) more ∙ ap (λ l. d ++ l) (append_assoc s (10 ∷ []) more)

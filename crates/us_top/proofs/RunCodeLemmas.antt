@@ -33,10 +33,8 @@ use Rattle.us_format.specs.Matrix.{Shape, Entry}
 use Rattle.us_format.specs.Packs.{Buffer, written}
 use Rattle.us_format.specs.Buffers.{all_buffers, parts_of}
 use Rattle.us_format.specs.Program.{plain_shape, shape_in, entries_in}
-use Rattle.us_format.specs.Reading.{limit}
 use Rattle.us_decl.specs.Declares.{Declared}
 use Rattle.us_judge.specs.Acceptance.{first_refusal}
-use Rattle.us_judge.specs.Entry.{entry_format}
 use Rattle.us_judge.specs.Views.{declaration_of}
 use Rattle.us_judge.specs.declared.refusal.Refusal.{Refusal}
 use Rattle.us_check.specs.Checks.{TellsChecked, TellsFault, checked}
@@ -51,23 +49,21 @@ use Rattle.us_outside.specs.Causes.{Faults}
 use Rattle.us_outside.specs.Files.{Files, content_of}
 use Rattle.us_unit.specs.Units.{PlainUnit, TellsUnit, unit_in, unit_view}
 use Rattle.us_unit.specs.declared.unit.OneUnit.{OneUnit}
-use Rattle.us_top.specs.declared.status.Slot.{Slot}
-use Rattle.us_top.specs.declared.status.Slot.TheVariants as slots
-use Rattle.us_top.specs.declared.status.Status.{Status}
-use Rattle.us_top.specs.declared.status.Status.TheVariants.{Memory, Refused, Sources, TooLarge, ReadFault}
-use Rattle.us_top.specs.declared.status.Status.TheVariants as status
-use Rattle.us_top.specs.declared.conversion.Made as making
-use Rattle.us_top.specs.Commands.{reads}
-use Rattle.us_top.specs.Steps.{OfFile, judged, size_on, status_of, then_step}
-use Rattle.us_top.specs.Converting.{Made, kept_in}
-use Rattle.us_top.specs.Running.{Gives, container_step, fit_unit, given, held_step, ran_step, result_step, right_sources, run_in, run_step, source_at, steps_line, unit_at, unit_of, unit_step, verified, well_formed}
-use Rattle.us_top.specs.Outcome.{behind}
-use Rattle.us_top.specs.Answers.{IsAnswer, IsInnerRefusal, IsOneOf, IsRefusal, IsStep, broken_refusal_of, code_refusal_of, target_refusal_of, verify_refusal_of}
-use Rattle.us_top.specs.Views.{bytes_of, contained_of, made_of, ran_view}
-use Rattle.us_top.proofs.InputLemmas.{inner_refusal}
-use Rattle.us_top.proofs.AnswerLemmas.{first_ends, step_answer}
-
--- ---- the code
+use Rattle.us_status.specs.declared.status.Slot.{Slot}
+use Rattle.us_status.specs.declared.status.Slot.TheVariants as slots
+use Rattle.us_status.specs.declared.status.Status.{Status}
+use Rattle.us_status.specs.declared.status.Status.TheVariants.{Memory, Refused, Sources, TooLarge}
+use Rattle.us_status.specs.declared.status.Status.TheVariants as status
+use Rattle.us_top.specs.declared.result.Made as making
+use Rattle.us_status.specs.Uses.{reads}
+use Rattle.us_inputs.specs.Steps.{judged}
+use Rattle.us_status.specs.Answers.{status_of, then_step, behind, IsAnswer, IsInnerRefusal, IsOneOf, IsRefusal, IsStep, broken_refusal_of, code_refusal_of, target_refusal_of, verify_refusal_of}
+use Rattle.us_top.specs.Running.{Made, Gives, container_step, fit_unit, given, ran_step, result_step, right_sources, run_in, run_step, steps_line, unit_at, unit_of, unit_step, verified, well_formed}
+use Rattle.us_inputs.specs.Sources.{source_at}
+use Rattle.us_inputs.specs.Views.{bytes_of}
+use Rattle.us_top.specs.Views.{made_of, ran_view}
+use Rattle.us_inputs.proofs.InputLemmas.{inner_refusal}
+use Rattle.us_status.proofs.AnswerLemmas.{first_ends, step_answer}
 
 pub unit_read : (bytes : List ℕ) (u : OneUnit) (r : Result PlainUnit Status) → unit_in bytes ≡ Ok (unit_view u) → IsStep (fit_unit (unit_view u)) r → IsStep (unit_of bytes) r
 unit_read bytes u r h s = subst (λ x. IsStep x r) (sym (ap (λ q. then_step (unit_step q) fit_unit) h)) s
@@ -133,32 +129,6 @@ pub inner_program : (fault : VerifyFault) (answer : Status) → answer ≡ verif
 inner_program (bounds.Unbound u) answer e = subst IsInnerRefusal (sym e) tt
 inner_program bounds.Memory answer e = subst IsInnerRefusal (sym e) tt
 
--- ---- the sources
-
-fits : (s : ℕ) → s ≤ limit → nat_le s 67108864 ≡ true
-fits s h = grind (arith, nat_tests)
-
-is_above : (s : ℕ) → limit < s → nat_le s 67108864 ≡ false
-is_above s h = grind (arith, nat_tests)
-
-by_size : (m : Map) (b : Bool) → nat_le (size_on m entry_format) 67108864 ≡ b → held_step (OfFile m) ≡ cond b (Ok (kept_in m entry_format)) (Err (TooLarge 0))
-by_size m b h = ap (λ t. cond t (Ok (kept_in m entry_format)) (Err (TooLarge 0))) h
-
--- a held matrix is what its container holds
-held_is : (h : Held) (d : Declared) (m : Map) → IsHeld h → h.declared ≡ d → h.matrix ≡ m → contained_of h ≡ kept_in m d
-held_is h d m held e f =
-    ap (λ bufs. record { declared = h.declared; shape = shape_in h.matrix; buffers = bufs; entries = entries_in h.matrix }) held.built
-    ∙ ap (kept_in h.matrix) e ∙ ap (λ m. kept_in m d) f
-
-pub entries_held : (h : Held) (d : Declared) (m : Map) → IsHeld h → d ≡ entry_format → h.declared ≡ d → h.matrix ≡ m → size_on m d ≤ limit → held_step (OfFile m) ≡ Ok (contained_of h)
-entries_held h d m held e is f small =
-    by_size m true (fits (size_on m entry_format) (subst (λ d. size_on m d ≤ limit) e small)) ∙ ap Ok (sym (held_is h entry_format m held (is ∙ e) f))
-
-pub entries_too_large : (d : Declared) (m : Map) → d ≡ entry_format → limit < size_on m d → held_step (OfFile m) ≡ Err (TooLarge 0)
-entries_too_large d m e large = by_size m false (is_above (size_on m entry_format) (subst (λ d. limit < size_on m d) e large))
-
--- ---- the lengths of the sources
-
 front_fits : (a b n : ℕ) → a + b ≤ n → a ≤ n
 front_fits a b n h = omega arith
 
@@ -180,8 +150,6 @@ buffers_short k held =
     let m = entries_in k.matrix in
     let lengths = front_fits (sum_by (λ (b : Buffer). b.len) (all_buffers s (parts_of s d m))) _ 67108864 held.small in
     subst (λ bufs. All (λ cells. length cells ≤ 67108864) bufs) (sym held.built) (short_by_sum (all_buffers s (parts_of s d m)) 67108864 lengths)
-
--- ---- the run
 
 abbrev compared : Bool → ℕ → ℕ → Result (Unit {0}) Status
 compared b want have = cond b (Ok tt) (Err (Sources want have))
@@ -260,8 +228,6 @@ pub run_out_of_steps : (budget : ℕ) (p : ProgramTree) (sources : List (List �
     → run_step budget p sources ≡ Err (status.OutOfSteps budget)
 run_out_of_steps budget p sources e a = as_many budget p sources e ∙ out_of_steps_is budget (run_within p sources budget) a
 
--- ---- the result
-
 -- the container of buffers that were checked
 pub checked_bytes : (d : Declared) (s : Shape) (bufs : List (List ℤ)) (h : Held) (bytes : List ℕ) → TellsChecked s d bufs (Ok h)
     → bytes ≡ container_bytes h.declared h.matrix.rows h.matrix.cols h.buffers → container_step d s bufs ≡ Ok bytes
@@ -314,8 +280,6 @@ shape_of rows cols = record { rows = rows; cols = cols }
 
 pub same_shape : (s : shapes.Shape) (m k : Map) → m ≡ k → (s.rows ≡ m.rows) × (s.cols ≡ m.cols) → plain_shape s ≡ shape_in k
 same_shape s m k e h = ap₂ shape_of h.0 h.1 ∙ ap shape_in e
-
--- ---- all steps
 
 -- the code is read and the sources are
 made_behind : (code input : List ℕ) (budget : ℕ) (fs : Files) (u : PlainUnit) (c : Contained) → unit_at (content_of fs code) ≡ Ok u → source_at (content_of fs input) ≡ Ok c

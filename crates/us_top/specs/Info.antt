@@ -2,7 +2,7 @@
 use Rattle.std.specs.Prelude.{ℕ, suc, ℤ, List, [], ◌∷◌, ◌++◌, length, codes}
 use Rattle.std.specs.Fmt.{decimal}
 use Rattle.us_matrix.specs.Map.{Map}
-use Rattle.us_top.specs.Steps.{Input, OfFile, OfContainer, map_of, size_on}
+use Rattle.us_inputs.specs.Steps.{Input, OfFile, OfContainer, map_of, size_on}
 
 -- a blank and a number
 abbrev pub spaced : ℕ → List ℕ

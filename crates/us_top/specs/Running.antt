@@ -1,5 +1,5 @@
 -- What `run` stores and prints.
-use Rattle.std.specs.Prelude.{ℕ, ℤ, List, [], ◌∷◌, ◌++◌, length, codes, nat_eq, nat_le, if◌then◌else◌, Option, Some, None, Result, Ok, Err}
+use Rattle.std.specs.Prelude.{ℕ, ℤ, List, [], ◌∷◌, ◌++◌, length, codes, nat_eq, if◌then◌else◌, Option, Some, None, Result, Ok, Err}
 use Rattle.std.specs.Fmt.{decimal}
 use Rattle.us_code.specs.Plain.{ProgramTree}
 use Rattle.us_code.specs.Runs.{Outcome, Gave, TooBig, OutOfSteps, GotStuck, run_within}
@@ -7,10 +7,8 @@ use Rattle.us_code.specs.Unbound as code
 use Rattle.us_code.specs.Unbound.{first_unbound}
 use Rattle.us_code_reader.specs.declared.parsed.CodeFault.{CodeFault}
 use Rattle.us_format.specs.Matrix.{Shape, Entry}
-use Rattle.us_format.specs.Reading.{limit}
 use Rattle.us_decl.specs.Declares.{Declared}
 use Rattle.us_judge.specs.Acceptance.{first_refusal}
-use Rattle.us_judge.specs.Entry.{entry_format}
 use Rattle.us_judge.specs.Views.{declaration_of}
 use Rattle.us_check.specs.declared.broken.Broken.{Broken}
 use Rattle.us_check.specs.Checks.{checked}
@@ -18,14 +16,18 @@ use Rattle.us_container.specs.Bytes.{container_bytes}
 use Rattle.us_container.specs.Contained.{Contained}
 use Rattle.us_outside.specs.Files.{Files, content_of}
 use Rattle.us_unit.specs.Units.{PlainUnit, unit_in}
-use Rattle.us_top.specs.declared.status.Status.{Status}
-use Rattle.us_top.specs.declared.status.Status.TheVariants.{Code, Unbound, Sources, TooLarge, NotWellFormed, Memory}
-use Rattle.us_top.specs.declared.status.Status.TheVariants as status
-use Rattle.us_top.specs.declared.status.Slot.TheVariants as slots
-use Rattle.us_top.specs.Steps.{Input, OfFile, OfContainer, input_at, judged, of_file, size_on, then_step}
-use Rattle.us_top.specs.Converting.{Made, kept_in}
+use Rattle.us_status.specs.declared.status.Status.{Status}
+use Rattle.us_status.specs.declared.status.Status.TheVariants.{Code, Unbound, Sources, TooLarge, NotWellFormed, Memory}
+use Rattle.us_status.specs.declared.status.Status.TheVariants as status
+use Rattle.us_status.specs.declared.status.Slot.TheVariants as slots
+use Rattle.us_inputs.specs.Steps.{judged, of_file}
+use Rattle.us_status.specs.Answers.{then_step}
+use Rattle.us_inputs.specs.Sources.{source_at}
 
--- ---- the code
+-- what is stored, and what is printed
+pub record Made : Type 0 where
+  pub bytes : List ℕ
+  pub lines : List ℕ
 
 abbrev pub unit_step : Result PlainUnit CodeFault → Result PlainUnit Status
 unit_step (Ok u) = Ok u
@@ -48,19 +50,6 @@ unit_of bytes = then_step (unit_step (unit_in bytes)) fit_unit
 abbrev pub unit_at : List ℕ → Result PlainUnit Status
 unit_at bytes = of_file slots.Code bytes (unit_of bytes)
 
--- ---- the sources
-
--- a matrix file is held in the built-in format, which is within the limit
-abbrev pub held_step : Input → Result Contained Status
-held_step (OfFile m) = if nat_le (size_on m entry_format) limit then Ok (kept_in m entry_format) else Err (TooLarge 0)
-held_step (OfContainer c) = Ok c
-
--- what the container of a file holds, or of a matrix file
-abbrev pub source_at : List ℕ → Result Contained Status
-source_at bytes = then_step (input_at slots.Input bytes) held_step
-
--- ---- the run
-
 abbrev pub right_sources : ℕ → ℕ → Result (Unit {0}) Status
 right_sources want have = if nat_eq want have then Ok tt else Err (Sources want have)
 
@@ -79,8 +68,6 @@ given budget GotStuck = Err Memory
 -- the run of a program on as many sources as it has, within the budget
 abbrev pub run_step : ℕ → ProgramTree → List (List ℤ) → Result Gives Status
 run_step budget p sources = then_step (right_sources p.sources (length sources)) (λ _. given budget (run_within p sources budget))
-
--- ---- the result
 
 abbrev pub well_formed : Result (List Entry) Broken → Result (Unit {0}) Status
 well_formed (Ok m) = Ok tt

@@ -1,17 +1,16 @@
 //! The command that writes a matrix file anew.
-ghost use Rattle.us_top.specs.Commands.{Canon};
-ghost use Rattle.us_top.specs.Runs.{IsRun, told};
+ghost use Rattle.us_top.specs.Tasks.{canon_task};
+ghost use Rattle.us_status.specs.Runs.{IsRunOf, told};
 
-use crate::ending::{Store, finish};
-use crate::input::read_input;
-use crate::{Slot, Status};
 use std::alloc::Global;
+use us_inputs::read_input;
 use us_mm::write_coordinate;
 use us_outside::Outside;
+use us_status::{Slot, Status, Store, finish};
 
 /// Stores the canonical text of the input's matrix as the output.
 pub fn canon<O: Outside>(alloc: Global, outside: &mut O, input: &str, output: &str) -> Status
-    ensures { IsRun (Canon input.now output.now)
+    ensures { IsRunOf (canon_task input.now output.now)
         (told (O.files outside.old) (O.printed outside.old) (O.faults outside.old))
         (told (O.files outside.new) (O.printed outside.new) (O.faults outside.new)) result }
 {

@@ -1,11 +1,12 @@
 //! The words of the command line.
-ghost use Rattle.std.specs.Prelude.{◌≡◌, ◌<◌, ◌^◌, Some, None, IfSome, MatchOption};
+ghost use Rattle.std.specs.Prelude.{◌≡◌, ◌<◌, ◌≤◌, ◌^◌, Some, None, IfSome, MatchOption, true};
 ghost use Rattle.std.specs.Option.{option_map};
 ghost use Rattle.us_matrix.specs.Map.{IsSide};
-ghost use Rattle.us_top.specs.Commands.{texts, command_of, canon_of, check_of, compile_of, convert_of, listing_of, run_of, info_of, side_of, budget_of};
+ghost use Rattle.us_top.specs.Commands.{texts, command_of, canon_of, check_of, compile_of, convert_of, listing_of, run_of, info_of, product_of, names_formats, generate_of, seed_of, count_of, side_of, budget_of};
+ghost use Rattle.us_inputs.specs.Chains.{is_chain};
 ghost use Rattle.us_top.specs.Views.{Says};
 
-use crate::chain::{is_chain, is_name};
+use us_inputs::{ends_in_text, is_chain, is_name};
 use us_matrix::Shape;
 use us_mm::number_of;
 
@@ -50,6 +51,25 @@ pub enum Command<'a> {
         target: &'a str,
         output: &'a str,
     },
+    /// Make the matrix of a seed, of so many triples, and convert it through a chain of formats of a library.
+    Generate {
+        seed: u64,
+        count: u32,
+        shape: Shape,
+        chain: &'a str,
+        formats: &'a str,
+    },
+    /// Multiply a matrix, in the last of a chain of formats of a library, by a dense operand, which is a vector or has any number
+    /// of columns, and list the programs that made the product, if a listing is wanted.
+    Product {
+        vector: bool,
+        formats: &'a str,
+        input: &'a str,
+        chain: &'a str,
+        operand: &'a str,
+        output: &'a str,
+        listing: Option<&'a str>,
+    },
 }
 
 /// The command that the words say, where they say one: its name, and its words behind it.
@@ -64,6 +84,9 @@ pub fn command_of(words: &[String]) -> Option<Command<'_>>
         "run" => run_of(words),
         "info" => info_of(words),
         "compile" => compile_of(words),
+        "generate" => generate_of(words),
+        "spmv" => product_of(true, words),
+        "spmm" => product_of(false, words),
         _ => None,
     }
 }
@@ -169,6 +192,85 @@ fn compile_of(words: &[String]) -> Option<Command<'_>>
         target: target.as_str(),
         output: output.as_str(),
     })
+}
+
+fn generate_of(words: &[String]) -> Option<Command<'_>>
+    ensures { Says result (generate_of (texts words.now)) }
+{
+    let [seed, rows, cols, count, chain, formats] = words else {
+        return None;
+    };
+    if !names_formats(chain.as_str()) {
+        return None;
+    }
+    let seed = seed_of(seed.as_str())?;
+    let height = side(rows.as_str())?;
+    let width = side(cols.as_str())?;
+    let count = count_of(count.as_str())?;
+    Some(Command::Generate {
+        seed,
+        count,
+        shape: Shape {
+            rows: height,
+            cols: width,
+        },
+        chain: chain.as_str(),
+        formats: formats.as_str(),
+    })
+}
+
+// A seed: a number of at most 20 digits, from 1 to 2147483646.
+fn seed_of(word: &str) -> Option<u64>
+    ensures { MatchOption result (seed_of word.now ≡ None) (λ n. seed_of word.now ≡ Some n) }
+{
+    let number = budget(word)?;
+    if number < 1 || number > 2147483646 {
+        return None;
+    }
+    Some(number)
+}
+
+// A number of triples: a number of at most 20 digits, up to 8388608.
+fn count_of(word: &str) -> Option<u32>
+    ensures value { MatchOption result (count_of word.now ≡ None) (λ n. count_of word.now ≡ Some n) }
+    ensures few { IfSome result (λ n. n ≤ 8388608) }
+{
+    let number = budget(word)?;
+    if number > 8388608 {
+        return None;
+    }
+    Some(number as u32)
+}
+
+fn product_of(vector: bool, words: &[String]) -> Option<Command<'_>>
+    ensures { Says result (product_of vector (texts words.now)) }
+{
+    let [formats, input, chain, operand, output, listing] = words else {
+        return None;
+    };
+    if !names_formats(chain.as_str()) {
+        return None;
+    }
+    Some(Command::Product {
+        vector,
+        formats: formats.as_str(),
+        input: input.as_str(),
+        chain: chain.as_str(),
+        operand: operand.as_str(),
+        output: output.as_str(),
+        listing: listing_of(listing.as_str()),
+    })
+}
+
+// Whether a word is a chain that doesn't end in the canonical text.
+fn names_formats(word: &str) -> bool
+    ensures is { result ≡ names_formats word.now }
+    ensures chain { result ≡ true → is_chain word.now ≡ true }
+{
+    if !is_chain(word) {
+        return false;
+    }
+    !ends_in_text(word)
 }
 
 // Rows or columns: a number of at most 20 digits, from 1 to 2147483647.

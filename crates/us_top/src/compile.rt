@@ -3,21 +3,22 @@ ghost use Rattle.std.specs.Prelude.{◌≡◌, ◌∷◌, [], IfErr, IfOk, IfSom
 ghost use Rattle.us_matrix.specs.Map.{IsSide};
 ghost use Rattle.us_outside.specs.Causes.{NeverFell};
 ghost use Rattle.us_outside.specs.Files.{content_of};
-ghost use Rattle.us_top.specs.declared.status.Slot.TheVariants.{Formats};
-ghost use Rattle.us_top.specs.Answers.{IsInnerRefusal, IsRefusal, IsStep};
-ghost use Rattle.us_top.specs.Commands.{Compile, reads};
+ghost use Rattle.us_status.specs.declared.status.Slot.TheVariants.{Formats};
+ghost use Rattle.us_status.specs.Answers.{IsInnerRefusal, IsRefusal, IsStep};
+ghost use Rattle.us_top.specs.Tasks.{compile_task};
+ghost use Rattle.us_status.specs.Uses.{reads};
 ghost use Rattle.us_top.specs.Compiling.{IsUnitOfPair, pair_in};
-ghost use Rattle.us_top.specs.Runs.{IsRun, told};
-ghost use Rattle.us_top.specs.Views.{formats_of, shape_view};
+ghost use Rattle.us_status.specs.Runs.{IsRunOf, told};
+ghost use Rattle.us_inputs.specs.Views.{formats_of};
+ghost use Rattle.us_top.specs.Views.{shape_view};
 
-use crate::Status;
-use crate::ending::{Store, finish};
-use crate::finding::read_formats;
 use std::alloc::{AllocError, Global};
 use us_convert::compile as program_of;
+use us_inputs::read_formats;
 use us_judge::Format;
 use us_matrix::Shape;
 use us_outside::Outside;
+use us_status::{Status, Store, finish};
 use us_unit::print_unit;
 
 /// Stores a unit: the declaration of the target, and a program that converts each matrix of the shape from the source to it.
@@ -32,7 +33,7 @@ pub fn compile<O: Outside>(
 ) -> Status
     requires rows { IsSide shape.rows }
     requires cols { IsSide shape.cols }
-    ensures { IsRun (Compile formats.now (shape_view shape) source.now target.now output.now)
+    ensures { IsRunOf (compile_task formats.now (shape_view shape) source.now target.now output.now)
         (told (O.files outside.old) (O.printed outside.old) (O.faults outside.old))
         (told (O.files outside.new) (O.printed outside.new) (O.faults outside.new)) result }
 {

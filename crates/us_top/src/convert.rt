@@ -2,22 +2,20 @@
 ghost use Rattle.std.specs.Prelude.{◌≡◌, ◌∷◌, [], Err, IfErr, IfOk, IfSome, None, true};
 ghost use Rattle.std.specs.Option.{option_map};
 ghost use Rattle.us_outside.specs.Causes.{NeverFell};
-ghost use Rattle.us_top.specs.declared.status.Slot.TheVariants.{Formats, Input};
-ghost use Rattle.us_top.specs.Commands.{Convert, is_chain, reads};
-ghost use Rattle.us_top.specs.Converting.{chained_in};
-ghost use Rattle.us_top.specs.Outcome.{plain_status, reached};
-ghost use Rattle.us_top.specs.Answers.{IsAnswer, IsStep, IsRefusal};
-ghost use Rattle.us_top.specs.Journeys.{IsConversionOf};
-ghost use Rattle.us_top.specs.Runs.{IsRun, told};
+ghost use Rattle.us_status.specs.declared.status.Slot.TheVariants.{Formats, Input};
+ghost use Rattle.us_top.specs.Tasks.{convert_task};
+ghost use Rattle.us_inputs.specs.Chains.{is_chain};
+ghost use Rattle.us_status.specs.Uses.{reads};
+ghost use Rattle.us_inputs.specs.Chained.{chained_in};
+ghost use Rattle.us_status.specs.Answers.{IsAnswer, IsStep, IsRefusal};
+ghost use Rattle.us_journeys.specs.Journeys.{IsConversionOf};
+ghost use Rattle.us_status.specs.Runs.{IsRunOf, plain_status, told};
 
-use crate::conversion::make;
-use crate::ending::{Store, finish};
-use crate::finding::read_chain;
-use crate::input::read_input;
-use crate::journey::Converted;
-use crate::{Slot, Status};
 use std::alloc::Global;
+use us_inputs::{read_chain, read_input};
+use us_journeys::{Converted, make};
 use us_outside::Outside;
+use us_status::{Slot, Status, Store, finish};
 use us_unit::listings_read_back;
 
 /// Stores the container of the input's matrix in the last format of the chain, or its canonical text, and behind it the
@@ -32,7 +30,7 @@ pub fn convert<'a, O: Outside>(
     listing: Option<&'a str>,
 ) -> Status
     requires { is_chain chain.now ≡ true }
-    ensures { IsRun (Convert formats.now input.now chain.now output.now (option_map (λ l. l.now) listing.entry))
+    ensures { IsRunOf (convert_task formats.now input.now chain.now output.now (option_map (λ l. l.now) listing.entry))
         (told (O.files outside.old) (O.printed outside.old) (O.faults outside.old))
         (told (O.files outside.new) (O.printed outside.new) (O.faults outside.new)) result }
 {
@@ -70,7 +68,7 @@ fn prepare<O: Outside>(
     ensures made { IfOk result (IsConversionOf formats.now input.now chain.now listed (O.files outside.old)) }
     ensures plain { IfErr result (λ s. IfSome (O.files outside.old) (λ fs. IsStep (chained_in formats.now input.now chain.now fs) (Err s))) }
     ensures answer { IfErr result (λ s. IfSome (O.files outside.old) (λ fs.
-        IsAnswer (reached (Convert formats.now input.now chain.now [] None) fs) (plain_status (Convert formats.now input.now chain.now [] None) fs) s)) }
+        IsAnswer ((convert_task formats.now input.now chain.now [] None).reached fs) (plain_status (convert_task formats.now input.now chain.now [] None) fs) s)) }
     ensures refusal { IfErr result (IsRefusal (reads Formats formats.now ∷ reads Input input.now ∷ []) (O.faults outside.old) (O.faults outside.new)) }
     ensures files { O.files outside.new ≡ O.files outside.old }
     ensures printed { O.printed outside.new ≡ O.printed outside.old }

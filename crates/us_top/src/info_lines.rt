@@ -2,13 +2,13 @@
 ghost use Rattle.std.specs.Prelude.{◌≡◌, ◌++◌, ◌∷◌, [], IfOk, OnOk, length};
 ghost use Rattle.us_top.specs.Info.{info_text, sides_text, spaced, buffer_lines};
 ghost use Rattle.std.specs.Fmt.{decimal};
-ghost use Rattle.us_top.specs.Steps.{OfFile, OfContainer};
-ghost use Rattle.us_top.specs.Views.{input_view, contained_of};
+ghost use Rattle.us_inputs.specs.Steps.{OfFile, OfContainer};
+ghost use Rattle.us_inputs.specs.Views.{input_view, contained_of};
 
-use crate::input::Input;
 use itoa::Buffer;
 use std::alloc::{AllocError, Global};
 use us_check::Held;
+use us_inputs::Input;
 use us_levels::size_of;
 use us_matrix::{Buffers, Matrix};
 

@@ -4,13 +4,12 @@ ghost use Rattle.us_matrix.specs.Map.{IsSide};
 ghost use Rattle.us_format.specs.Program.{plain_shape};
 ghost use Rattle.us_code.specs.Plain.{program_tree};
 ghost use Rattle.us_container.specs.Bytes.{container_bytes};
-ghost use Rattle.us_top.specs.declared.status.Status.TheVariants.{Memory};
+ghost use Rattle.us_status.specs.declared.status.Status.TheVariants.{Memory};
 ghost use Rattle.us_top.specs.Running.{container_step, ran_step, result_step, run_step, steps_line};
-ghost use Rattle.us_top.specs.Answers.{IsStep, IsInnerRefusal, broken_refusal_of};
-ghost use Rattle.us_top.specs.Views.{bytes_of, contained_of, made_of, ran_of, ran_view, target_view};
+ghost use Rattle.us_status.specs.Answers.{IsStep, IsInnerRefusal, broken_refusal_of};
+ghost use Rattle.us_inputs.specs.Views.{bytes_of, contained_of};
+ghost use Rattle.us_top.specs.Views.{made_of, ran_of, ran_view, target_view};
 
-use crate::Status;
-use crate::conversion::Made;
 use crate::target::Target;
 use itoa::Buffer;
 use std::alloc::{AllocError, Global};
@@ -20,6 +19,14 @@ use us_container::write_container;
 use us_judge::Format;
 use us_machine::{Ran, RunStop, run};
 use us_matrix::{Buffers, Shape};
+use us_status::Status;
+
+/// The bytes that are stored, and the lines that are printed.
+#[derive(Drop)]
+pub struct Made {
+    pub bytes: Vec<u8>,
+    pub lines: Vec<u8>,
+}
 
 /// The container of what the program makes of the sources, in the target and of their shape, and the line of its steps.
 pub fn result_of(alloc: Global, target: Target, source: &Held, budget: u64) -> Result<Made, Status>
@@ -28,7 +35,7 @@ pub fn result_of(alloc: Global, target: Target, source: &Held, budget: u64) -> R
 {
     let shape = source.matrix().shape();
     match run_on(alloc, &target.code, source, budget) {
-        Ok(ran) => made(alloc, target.format, shape, ran),
+        Ok(ran) => put_together(alloc, target.format, shape, ran),
         Err(status) => Err(status),
     }
 }
@@ -53,7 +60,7 @@ fn run_on(alloc: Global, code: &Verified, source: &Held, budget: u64) -> Result<
 }
 
 // The container of what a run gave, and the line of its steps.
-fn made(alloc: Global, format: Format, shape: Shape, ran: Ran) -> Result<Made, Status>
+fn put_together(alloc: Global, format: Format, shape: Shape, ran: Ran) -> Result<Made, Status>
     requires rows { IsSide shape.rows }
     requires cols { IsSide shape.cols }
     ensures plain { IsStep (result_step format (plain_shape shape) (ran_view ran)) (made_of result) }

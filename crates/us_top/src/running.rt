@@ -1,10 +1,10 @@
 //! The call that does all that the program does.
 ghost use Rattle.std.specs.Prelude.{◌≡◌, ◌↔◌, None, IfSome};
 ghost use Rattle.us_top.specs.Commands.{texts, command_of};
-ghost use Rattle.us_top.specs.Headline.{LibraryReads};
-ghost use Rattle.us_top.specs.Runs.{IsRun, told};
+ghost use Rattle.us_top.specs.Headline.{AllAreReadByGrammar};
+ghost use Rattle.us_top.specs.Runs.{IsRun};
+ghost use Rattle.us_status.specs.Runs.{told};
 
-use crate::Status;
 use crate::canon::canon;
 use crate::check::check;
 use crate::command::{Command, command_of};
@@ -13,8 +13,11 @@ use crate::convert::convert;
 use crate::info::info;
 use crate::run_code::run_code;
 use std::alloc::Global;
+use us_generate::generate;
 use us_outside::Outside;
 use us_parse::library_answers_mean;
+use us_products::product;
+use us_status::Status;
 
 /// Does what the words say, over the outside, and answers how it went.
 pub fn run<O: Outside>(alloc: Global, words: &[String], outside: &mut O) -> Status
@@ -25,10 +28,12 @@ pub fn run<O: Outside>(alloc: Global, words: &[String], outside: &mut O) -> Stat
     ensures runs { IfSome (command_of (texts words.now)) (λ command. IsRun command
         (told (O.files outside.old) (O.printed outside.old) (O.faults outside.old))
         (told (O.files outside.new) (O.printed outside.new) (O.faults outside.new)) result) }
-    // The library that a command reads is read as the grammar says.
-    ensures grammar { IfSome (command_of (texts words.now)) (λ command. IfSome (O.files outside.old) (LibraryReads command)) }
+    // Libraries, units and containers are read as the grammars say.
+    ensures grammar { AllAreReadByGrammar }
 {
     library_answers_mean();
+    us_parse::answers_mean();
+    us_code_table::laws::answers_mean();
     match command_of(words) {
         None => Status::Words,
         Some(Command::Canon { input, output }) => canon(alloc, outside, input, output),
@@ -60,5 +65,27 @@ pub fn run<O: Outside>(alloc: Global, words: &[String], outside: &mut O) -> Stat
                 output,
             },
         ) => compile(alloc, outside, formats, shape, source, target, output),
+        Some(
+            Command::Generate {
+                seed,
+                count,
+                shape,
+                chain,
+                formats,
+            },
+        ) => generate(alloc, outside, seed, shape, count, chain, formats),
+        Some(
+            Command::Product {
+                vector,
+                formats,
+                input,
+                chain,
+                operand,
+                output,
+                listing,
+            },
+        ) => product(
+            alloc, outside, vector, formats, input, chain, operand, output, listing,
+        ),
     }
 }

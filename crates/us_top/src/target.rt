@@ -8,21 +8,22 @@ ghost use Rattle.us_code.specs.Unbound.{first_unbound};
 ghost use Rattle.us_decl.specs.Declares.{IsValid};
 ghost use Rattle.us_decl.specs.Views.{decl_view};
 ghost use Rattle.us_unit.specs.Units.{unit_view};
-ghost use Rattle.us_top.specs.Commands.{reads};
-ghost use Rattle.us_top.specs.Steps.{of_file, then_step};
+ghost use Rattle.us_status.specs.Uses.{reads};
+ghost use Rattle.us_inputs.specs.Steps.{of_file};
+ghost use Rattle.us_status.specs.Answers.{then_step};
 ghost use Rattle.us_top.specs.Running.{fit_unit, unit_of, verified};
-ghost use Rattle.us_top.specs.Answers.{IsStep, IsRefusal, IsInnerRefusal, code_refusal_of, target_refusal_of, verify_refusal_of};
+ghost use Rattle.us_status.specs.Answers.{IsStep, IsRefusal, IsInnerRefusal, code_refusal_of, target_refusal_of, verify_refusal_of};
 ghost use Rattle.us_top.specs.Views.{target_of};
 
-use crate::input::load_file;
-use crate::{Slot, Status};
 use std::alloc::Global;
 use us_bounds::{Verified, VerifyFault, verify};
 use us_code::Program;
 use us_code_laws::unbound_means_untyped;
 use us_code_reader::CodeFault;
+use us_inputs::load_file;
 use us_judge::{Format, JudgeFault, judge};
 use us_outside::Outside;
+use us_status::{Slot, Status};
 use us_unit::{OneUnit, parse_unit};
 
 /// A target, and a verified program for it.

@@ -1,10 +1,12 @@
-use Rattle.std.proofs.Common.{◌∷◌, [], ◌∙◌, None, Some, is_some, ◌++◌, refl, ap}
+use Rattle.std.proofs.Common.{◌∷◌, [], ◌∙◌, None, Some, is_some, ◌++◌, refl, ap, sym}
 use Rattle.std.specs.Option.{option_map}
-use Rattle.us_top.specs.declared.status.Slot.TheVariants.{Formats, Input, Output}
-use Rattle.us_top.specs.Commands.{Convert, listing_uses, print_use, reads, stores}
-use Rattle.us_top.specs.Runs.{told}
-use Rattle.us_top.proofs.RunLemmas.{done_run, refused_run}
-use Rattle.us_top.proofs.ConvertLemmas.{made_means, made_steps, stored_alone, stored_listed}
+use Rattle.std.proofs.lemmas.Bool.{false≢true}
+use Rattle.us_status.specs.declared.status.Slot.TheVariants.{Formats, Input, Output}
+use Rattle.us_top.specs.Tasks.{convert_task}
+use Rattle.us_status.specs.Uses.{listing_uses, print_use, reads, stores}
+use Rattle.us_status.specs.Runs.{told}
+use Rattle.us_status.proofs.RunLemmas.{done_run, refused_run}
+use Rattle.us_top.proofs.ConvertLemmas.{conversion_uses, made_means, made_steps, stored_alone, stored_listed}
 use Rattle.us_top.proofs.convert.convert.Goals as goal
 
 pub returns-in-None : goal.returns-in-None
@@ -13,11 +15,14 @@ returns-in-None g c =
     let before = told (g.O.Outside.files c.args.outside.now) (g.O.Outside.printed c.args.outside.now) (g.O.Outside.faults c.args.outside.now) in
     let middle = told (g.O.Outside.files c.prepare.new.outside) (g.O.Outside.printed c.prepare.new.outside) (g.O.Outside.faults c.prepare.new.outside) in
     let now = told (g.O.Outside.files c.finish.new.outside) (g.O.Outside.printed c.finish.new.outside) (g.O.Outside.faults c.finish.new.outside) in
+    let made = (stored_alone c.args.chain.now c.args.output.now c.is_some.result k.0 c.in-Ok.made _ _ _ k.1 c.output.ensures c.deref.ensures.value c.deref-in-None.ensures.value) in
     rw c.in-None.is
-    (done_run (Convert c.args.formats.now c.args.input.now c.args.chain.now c.args.output.now None) k.0 _ before middle now c.finish.result
+    (done_run (convert_task c.args.formats.now c.args.input.now c.args.chain.now c.args.output.now None) k.0 _ (reads Formats c.args.formats.now ∷ reads Input c.args.input.now ∷ []) before middle now c.finish.result
     (made_steps c.args.formats.now c.args.input.now c.args.chain.now (g.O.Outside.files c.args.outside.now) k.0 k.2)
-    (stored_alone c.args.chain.now c.args.output.now c.is_some.result k.0 c.in-Ok.made _ _ _ k.1 c.output.ensures c.deref.ensures.value c.deref-in-None.ensures.value)
-    (made_means c.args.formats.now c.args.input.now c.args.chain.now c.args.output.now None c.is_some.result (g.O.Outside.files c.args.outside.now) k.0 c.in-Ok.made k.1 k.2)
+    made
+    (made_means c.args.formats.now c.args.input.now c.args.chain.now c.args.output.now None c.is_some.result (g.O.Outside.files c.args.outside.now) k.0 c.in-Ok.made _ k.1 k.2 made)
+    (conversion_uses c.args.formats.now c.args.input.now c.args.chain.now c.args.output.now None k.0 _ made)
+    (λ e. absurd (false≢true (sym e)))
     c.in-Ok.ensures.later
     c.in-Ok.ensures.files
     c.in-Ok.ensures.printed
@@ -29,12 +34,15 @@ returns-in-Ok g c =
     let before = told (g.O.Outside.files c.args.outside.now) (g.O.Outside.printed c.args.outside.now) (g.O.Outside.faults c.args.outside.now) in
     let middle = told (g.O.Outside.files c.prepare.new.outside) (g.O.Outside.printed c.prepare.new.outside) (g.O.Outside.faults c.prepare.new.outside) in
     let now = told (g.O.Outside.files c.finish-in-Some.new.outside) (g.O.Outside.printed c.finish-in-Some.new.outside) (g.O.Outside.faults c.finish-in-Some.new.outside) in
+    let made = (stored_listed c.args.chain.now c.args.output.now c.in-Some.name.now c.is_some.result k.0 c.in-Ok.made _ _ _ _ _ c.listings_read_back.ensures.back k.1 (c.is_some.ensures ∙ ap is_some c.in-Some.is)
+    c.output-in-Some.ensures c.deref-in-Some.ensures.value c.listing.ensures c.deref-in-Some-2.ensures.value c.deref-in-Some-3.ensures.value) in
     rw c.in-Some.is
-    (done_run (Convert c.args.formats.now c.args.input.now c.args.chain.now c.args.output.now (Some c.in-Some.name.now)) k.0 _ before middle now c.finish-in-Some.result
+    (done_run (convert_task c.args.formats.now c.args.input.now c.args.chain.now c.args.output.now (Some c.in-Some.name.now)) k.0 _ (reads Formats c.args.formats.now ∷ reads Input c.args.input.now ∷ []) before middle now c.finish-in-Some.result
     (made_steps c.args.formats.now c.args.input.now c.args.chain.now (g.O.Outside.files c.args.outside.now) k.0 k.2)
-    (stored_listed c.args.chain.now c.args.output.now c.in-Some.name.now c.is_some.result k.0 c.in-Ok.made _ _ _ _ _ c.listings_read_back.ensures.back k.1 (c.is_some.ensures ∙ ap is_some c.in-Some.is)
-    c.output-in-Some.ensures c.deref-in-Some.ensures.value c.listing.ensures c.deref-in-Some-2.ensures.value c.deref-in-Some-3.ensures.value)
-    (made_means c.args.formats.now c.args.input.now c.args.chain.now c.args.output.now (Some c.in-Some.name.now) c.is_some.result (g.O.Outside.files c.args.outside.now) k.0 c.in-Ok.made k.1 k.2)
+    made
+    (made_means c.args.formats.now c.args.input.now c.args.chain.now c.args.output.now (Some c.in-Some.name.now) c.is_some.result (g.O.Outside.files c.args.outside.now) k.0 c.in-Ok.made _ k.1 k.2 made)
+    (conversion_uses c.args.formats.now c.args.input.now c.args.chain.now c.args.output.now (Some c.in-Some.name.now) k.0 _ made)
+    (λ e. absurd (false≢true (sym e)))
     c.in-Ok.ensures.later
     c.in-Ok.ensures.files
     c.in-Ok.ensures.printed
@@ -42,7 +50,7 @@ returns-in-Ok g c =
 
 pub returns : goal.returns
 returns g c =
-    refused_run (Convert c.args.formats.now c.args.input.now c.args.chain.now c.args.output.now (option_map (λ l. l.now) c.args.listing))
+    refused_run (convert_task c.args.formats.now c.args.input.now c.args.chain.now c.args.output.now (option_map (λ l. l.now) c.args.listing))
     (told (g.O.Outside.files c.args.outside.now) (g.O.Outside.printed c.args.outside.now) (g.O.Outside.faults c.args.outside.now))
     (told (g.O.Outside.files c.prepare.new.outside) (g.O.Outside.printed c.prepare.new.outside) (g.O.Outside.faults c.prepare.new.outside))
     (reads Formats c.args.formats.now ∷ reads Input c.args.input.now ∷ [])

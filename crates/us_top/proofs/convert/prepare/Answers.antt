@@ -1,12 +1,13 @@
 use Rattle.std.proofs.Common.{◌∷◌, [], Ok, Err, sym}
 use Rattle.std.proofs.lemmas.Option.{IfSome_then}
 use Rattle.std.proofs.lemmas.Result.{IfErr-weaker, err_from_is_err_and}
-use Rattle.us_top.specs.declared.status.Slot.TheVariants.{Formats, Input}
-use Rattle.us_top.specs.Commands.{reads}
-use Rattle.us_top.specs.Views.{input_view}
-use Rattle.us_top.proofs.InputLemmas.{inner_refusal}
-use Rattle.us_top.proofs.AnswerLemmas.{both, refusal_before, refusal_behind, refusal_in_front}
-use Rattle.us_top.proofs.ConvertLemmas.{all_made, formats_answer, formats_end, input_answer, input_before, input_ends, make_answers, make_plain}
+use Rattle.us_status.specs.declared.status.Slot.TheVariants.{Formats, Input}
+use Rattle.us_status.specs.Uses.{reads}
+use Rattle.us_inputs.specs.Views.{input_view}
+use Rattle.us_inputs.proofs.InputLemmas.{inner_refusal}
+use Rattle.us_status.proofs.AnswerLemmas.{both, refusal_before, refusal_behind, refusal_in_front}
+use Rattle.us_journeys.proofs.ConvertedLemmas.{all_made}
+use Rattle.us_inputs.proofs.ChainedLemmas.{formats_answer, formats_end, input_answer, input_before, input_ends, make_answers, make_plain}
 use Rattle.us_top.proofs.convert.prepare.Goals as goal
 
 pub returns-in_err-formats-clause-plain : goal.returns-in_err-formats-clause-plain

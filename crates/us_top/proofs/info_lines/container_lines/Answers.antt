@@ -1,7 +1,7 @@
 use Rattle.std.proofs.Common.{◌≡◌, ◌+◌, min, ap, ◌∙◌}
 use Rattle.us_format.specs.Reading.{limit}
 use Rattle.us_decl.specs.Declares.{Declared}
-use Rattle.us_top.specs.Steps.{size_on}
+use Rattle.us_inputs.specs.Steps.{size_on}
 use Rattle.us_top.specs.Info.{spaced}
 use Rattle.us_top.proofs.InfoLemmas.{joined, held_size, info_container}
 use Rattle.us_top.proofs.info_lines.container_lines.Goals as goal

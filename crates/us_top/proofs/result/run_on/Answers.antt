@@ -5,7 +5,7 @@ use Rattle.us_code.specs.declared.program.Program.{Program}
 use Rattle.us_machine.specs.Answer as machine
 use Rattle.us_top.specs.Running.{run_step}
 use Rattle.us_top.specs.Views.{ran_view}
-use Rattle.us_top.specs.declared.status.Status.TheVariants.{OutOfSteps, TooLarge}
+use Rattle.us_status.specs.declared.status.Status.TheVariants.{OutOfSteps, TooLarge}
 use Rattle.us_top.proofs.RunCodeLemmas.{buffers_short, run_gave, run_out_of_steps, run_too_large}
 use Rattle.us_top.proofs.result.run_on.Goals as goal
 

@@ -1,11 +1,12 @@
 use Rattle.std.proofs.Common.{◌∷◌, [], Ok, Err}
 use Rattle.std.proofs.lemmas.Option.{IfSome_then}
 use Rattle.std.proofs.lemmas.Result.{IfErr-weaker, err_from_is_err_and}
-use Rattle.us_top.specs.declared.status.Slot.TheVariants.{Code, Input}
-use Rattle.us_top.specs.Commands.{reads}
-use Rattle.us_top.specs.Views.{contained_of, target_view}
-use Rattle.us_top.proofs.InputLemmas.{inner_refusal}
-use Rattle.us_top.proofs.AnswerLemmas.{both, refusal_before, refusal_behind, refusal_in_front}
+use Rattle.us_status.specs.declared.status.Slot.TheVariants.{Code, Input}
+use Rattle.us_status.specs.Uses.{reads}
+use Rattle.us_inputs.specs.Views.{contained_of}
+use Rattle.us_top.specs.Views.{target_view}
+use Rattle.us_inputs.proofs.InputLemmas.{inner_refusal}
+use Rattle.us_status.proofs.AnswerLemmas.{both, refusal_before, refusal_behind, refusal_in_front}
 use Rattle.us_top.proofs.RunCodeLemmas.{source_before, code_ends, code_answer, source_ends, source_answer, ran_plain, ran_answer}
 use Rattle.us_top.proofs.run_code.prepare.Goals as goal
 

@@ -1,10 +1,10 @@
 use Rattle.std.proofs.Common.{sym, subst}
 use Rattle.std.proofs.lemmas.Option.{IfSome_then}
 use Rattle.std.proofs.lemmas.Result.{err_from_is_err_and}
-use Rattle.us_top.specs.Answers.{IsStep}
+use Rattle.us_status.specs.Answers.{IsStep}
 use Rattle.us_top.specs.Running.{unit_of}
 use Rattle.us_top.specs.Views.{target_of}
-use Rattle.us_top.proofs.InputLemmas.{read_behind, unread_behind}
+use Rattle.us_inputs.proofs.InputLemmas.{read_behind, unread_behind}
 use Rattle.us_top.proofs.target.read_target.Goals as goal
 
 pub returns-in_err-bytes-clause-plain : goal.returns-in_err-bytes-clause-plain

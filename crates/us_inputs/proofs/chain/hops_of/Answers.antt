@@ -1,0 +1,10 @@
+use Rattle.std.proofs.Common.{lit<, rules, tests, not}
+use Rattle.std.proofs.lemmas.Iterator.Consumers.{YieldsList-at, YieldsList-from_filter, map_from_collect}
+use Rattle.std.proofs.lemmas.Iterator.Splits.{YieldsList-from_str_split}
+use Rattle.us_inputs.specs.Chains.{is_text}
+use Rattle.us_inputs.proofs.chain.hops_of.Goals as goal
+
+pub returns : goal.returns
+returns c =
+    map_from_collect _ c.collect.ensures.ran
+    (YieldsList-from_filter _ (λ w. not (is_text w)) (YieldsList-at c.filter.ensures.source (YieldsList-from_str_split 44 c.args.chain.now (lit< tt) c.split.ensures.text c.split.ensures.has_more c.split.ensures.pattern)) c.filter.ensures.closure (λ x b q k. search (rules, tests)))

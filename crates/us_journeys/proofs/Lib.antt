@@ -1,0 +1,4 @@
+pub mod ConversionLemmas
+pub mod ConvertedLemmas
+pub mod JourneyLemmas
+pub mod ReadBackLemmas

@@ -1,0 +1,4 @@
+pub mod Converting
+pub mod Hops
+pub mod Journeys
+pub mod Meanings

@@ -1,0 +1,5 @@
+pub mod FactorLemmas
+pub mod MultiplyLemmas
+pub mod OperandLemmas
+pub mod ProductLemmas
+pub mod SumLemmas

@@ -1,9 +1,0 @@
-use Rattle.std.proofs.Common.{map}
-use Rattle.us_top.specs.Views.{store_view}
-use Rattle.us_top.proofs.EndingLemmas.{Storing}
-use Rattle.us_top.proofs.ending.store_all.Given as goal
-
-abbrev pub invariant-loop-store : goal.invariant-loop-store
-invariant-loop-store g l =
-    Storing (map store_view l.stores) l.store-index (g.O.Outside.files l.fn.outside) (g.O.Outside.files l.outside) (g.O.Outside.printed l.fn.outside) (g.O.Outside.printed l.outside)
-    (g.O.Outside.faults l.fn.outside) (g.O.Outside.faults l.outside)

@@ -1,7 +1,0 @@
-use Rattle.us_top.specs.Views.{contained_of}
-use Rattle.us_top.proofs.JourneyLemmas.{Going}
-use Rattle.us_top.proofs.journey.go_along.Given as goal
-
-abbrev pub invariant-loop-i : goal.invariant-loop-i
-invariant-loop-i l =
-    Going l.fn.journey.held.matrix (contained_of l.fn.journey.held) l.listed l.formats l.i l.journey.held l.journey.lines.items l.journey.listing.items
