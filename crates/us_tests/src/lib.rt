@@ -15,9 +15,13 @@ mod declarations;
 #[cfg(test)]
 mod formats;
 #[cfg(test)]
+mod generates;
+#[cfg(test)]
 mod listings;
 #[cfg(test)]
 mod matrix_files;
+#[cfg(test)]
+mod products;
 #[cfg(test)]
 mod queries;
 #[cfg(test)]

@@ -50,11 +50,8 @@ fn is_hop(line: &str, hop: &str) -> bool {
     }
 }
 
-/// Whether the names and sizes of these hops were printed, a line for each, with its number of steps behind.
-pub fn has_hops(outside: &MemoryOutside, hops: &str) -> bool {
-    let Ok(text) = str::from_utf8(outside.printed()) else {
-        return false;
-    };
+/// Whether the lines of a text are the names and sizes of these hops, each with its number of steps behind.
+pub fn are_hops(text: &str, hops: &str) -> bool {
     let mut wanted = hops.split('\n');
     for line in text.split('\n') {
         match wanted.next() {
@@ -67,6 +64,14 @@ pub fn has_hops(outside: &MemoryOutside, hops: &str) -> bool {
         }
     }
     wanted.next().is_none()
+}
+
+/// Whether the names and sizes of these hops were printed, a line for each, with its number of steps behind.
+pub fn has_hops(outside: &MemoryOutside, hops: &str) -> bool {
+    match str::from_utf8(outside.printed()) {
+        Ok(text) => are_hops(text, hops),
+        Err(_) => false,
+    }
 }
 
 /// Whether a file has these bytes.
