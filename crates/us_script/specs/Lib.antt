@@ -1,0 +1,5 @@
+pub mod Steps
+pub mod Reads
+pub mod Text
+pub mod Views
+pub mod Laws
