@@ -38,6 +38,10 @@ buffers_counted s d m law = length-map (all_buffers s (parts_of s d m)) written 
 
 pub are-sources : (k : Kept) → IsHeld k → IsMatrix k.matrix → IsValid k.declared → first_refusal (declaration_of k.declared) ≡ None → AreSources k
 are-sources k held im valid accepted = record {
+  valid = valid;
+  accepted = accepted;
+  rows = im.rows.high;
+  cols = im.cols.high;
   matrix = program-matrix k.matrix im;
   built = held.built;
   small = held.small;

@@ -1,28 +1,33 @@
 -- The run that a hop is.
-use Rattle.std.specs.Prelude.{◌≡◌, ℕ, ◌-◌, ◌^◌, ◌≤◌, min, ℤ, List, All, length}
+use Rattle.std.specs.Prelude.{◌≡◌, ℕ, ◌^◌, ◌<◌, ◌≤◌, ℤ, List, All, length, None}
 use Rattle.us_format.specs.Matrix.{IsMatrixOf}
 use Rattle.us_format.specs.Program.{shape_in, entries_in}
 use Rattle.us_format.specs.Buffers.{buffers, size}
 use Rattle.us_format.specs.Reading.{limit, total_count}
+use Rattle.us_decl.specs.Declares.{IsValid}
+use Rattle.us_judge.specs.Acceptance.{first_refusal}
 use Rattle.us_judge.specs.Views.{declaration_of}
 use Rattle.us_check.specs.Kept.{Kept}
 use Rattle.us_code.specs.Plain.{ProgramTree}
 use Rattle.us_code.specs.Runs.{Gave, run}
 
--- from the sources the program gives the lists, in so many steps as are shown, where 2 ^ 64 - 1 stands for greater numbers
-pub record IsRunOf (p : ProgramTree) (sources lists : List (List ℤ)) (shown : ℕ) : Type 0 where
-  pub steps : ℕ
-  pub gives : run p sources ≡ Gave lists steps
-  pub counted : shown ≡ min steps (2 ^ 64 - 1)
+-- from the sources the program gives the lists, in so many steps
+abbrev pub IsRunOf : ProgramTree → List (List ℤ) → List (List ℤ) → ℕ → Type 0
+IsRunOf p sources lists steps = run p sources ≡ Gave lists steps
 
--- the program comes to its end
+-- the program comes to its end, in fewer than 2 ^ 64 steps
 pub record Ends (p : ProgramTree) (sources : List (List ℤ)) : Type 0 where
   pub lists : List (List ℤ)
   pub steps : ℕ
   pub gives : run p sources ≡ Gave lists steps
+  pub few : steps < 2 ^ 64
 
--- the buffers of a held matrix as sources: those of the matrix, as many as its format has, each within the limit
+-- the buffers of a held matrix as sources: those of the matrix, as many as its format has, each within the limit; the format is accepted, the shape a matrix's
 pub record AreSources (k : Kept) : Type 0 where
+  pub valid : IsValid k.declared
+  pub accepted : first_refusal (declaration_of k.declared) ≡ None
+  pub rows : k.matrix.rows < 2 ^ 31
+  pub cols : k.matrix.cols < 2 ^ 31
   pub matrix : IsMatrixOf (shape_in k.matrix) (entries_in k.matrix)
   pub built : k.buffers ≡ buffers (shape_in k.matrix) (declaration_of k.declared) (entries_in k.matrix)
   pub small : size (shape_in k.matrix) (declaration_of k.declared) (entries_in k.matrix) ≤ limit

@@ -61,6 +61,7 @@ pub(crate) fn arrive(
     ensures format { IfOk result (λ a. a.held.declared ≡ to.now) }
     ensures matrix { IfOk result (λ a. a.held.matrix ≡ held.now.matrix) }
 {
+    to.decl();
     let source = sources_of(held);
     let Ran { buffers, steps } = run_to_end(alloc, code, source)?;
     let matrix = held.matrix().copy(alloc)?;

@@ -31,7 +31,7 @@ pub struct Hopped {
     pub code: Verified,
     /// The lengths of its buffers and the numbers of positions after each level, added up.
     pub size: u64,
-    /// How many steps the run took, or 18446744073709551615 where there were more.
+    /// How many steps the run took.
     pub steps: u64,
 }
 

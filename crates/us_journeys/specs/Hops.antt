@@ -21,7 +21,7 @@ pub record Hop : Type 0 where
   pub steps : ℕ
 
 -- the program is right for both formats and each matrix of the shape, and puts nothing in order between formats that are alike; its run on what is
--- held gives the target's buffers of the matrix in these steps, where 2 ^ 64 - 1 stands for more
+-- held gives the target's buffers of the matrix in these steps
 pub record IsHop (m : Map) (from : Contained) (h : Hop) : Type 0 where
   pub right : IsRight h.unit.program (declaration_of from.declared) (declaration_of h.unit.target) (shape_in m)
   pub unsorted : AreAlike (declaration_of from.declared) (declaration_of h.unit.target) → HaveNoOrder h.unit.program.phases

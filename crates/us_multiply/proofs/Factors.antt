@@ -24,6 +24,7 @@ use Rattle.us_check.specs.Held.{IsHeld}
 use Rattle.us_code.specs.Plain.{ProgramTree}
 use Rattle.us_code.specs.Runs.{run}
 use Rattle.us_kernel.specs.Right.{GivesProduct, IsRightKernel}
+use Rattle.us_steps.proofs.StepBounds.{few_kernel_steps}
 use Rattle.us_multiply.specs.Running.{AreFactors, Ends}
 
 -- no list is longer than all of them together
@@ -42,6 +43,8 @@ are-factors k x held im valid accepted long rows few =
     let number : length (buffers (shape_in k.matrix) (declaration_of k.declared) (entries_in k.matrix)) ≡ total_count (declaration_of k.declared) =
     length-map (all_buffers (shape_in k.matrix) (parts_of (shape_in k.matrix) (declaration_of k.declared) (entries_in k.matrix))) written ∙ buffers-are-counted (shape_in k.matrix) (declaration_of k.declared) (entries_in k.matrix) law in
     record {
+      valid = valid;
+      accepted = accepted;
       matrix = program-matrix k.matrix im;
       built = held.built;
       small = held.small;
@@ -63,4 +66,14 @@ pub right-ends : (p : ProgramTree) (k : Kept) (x : Grid) → IsRightKernel p (de
     → Ends p (k.buffers ++ x.cells ∷ [])
 right-ends p k x right f few_factors few =
     let g = gives p k x right f few_factors few in
-    record { lists = g.cells ∷ []; steps = g.steps; gives = ap (λ (bs : List (List ℤ)). run p (bs ++ x.cells ∷ [])) f.built ∙ g.gives }
+    record {
+      lists = g.cells ∷ [];
+      steps = g.steps;
+      gives = ap (λ (bs : List (List ℤ)). run p (bs ++ x.cells ∷ [])) f.built ∙ g.gives;
+      few =
+          omega (
+            arith,
+            g.few,
+            few_kernel_steps k.declared (shape_in k.matrix) x.cols (entries_in k.matrix) f.valid f.accepted f.matrix f.small (omega (arith, f.operand, few_factors)) few,
+          );
+    }

@@ -29,11 +29,11 @@ pub record IsProduct (k : Kept) (x : Grid) (lists : List (List ℤ)) : Type 0 wh
   pub one : lists ≡ nth lists 0 ∷ []
   pub dense : IsDense (shape_in k.matrix) (entries_in k.matrix) x.cols x.cells (nth lists 0)
 
-pub is-product : (p : ProgramTree) (k : Kept) (x : Grid) (lists : List (List ℤ)) (shown : ℕ) → IsRightKernel p (declaration_of k.declared) (shape_in k.matrix) x.cols → AreFactors k x → length x.cells ≤ 33554432
-    → k.matrix.rows * x.cols ≤ 33554432 → IsRunOf p (k.buffers ++ x.cells ∷ []) lists shown → IsProduct k x lists
-is-product p k x lists shown right f few_factors few r =
+pub is-product : (p : ProgramTree) (k : Kept) (x : Grid) (lists : List (List ℤ)) (steps : ℕ) → IsRightKernel p (declaration_of k.declared) (shape_in k.matrix) x.cols → AreFactors k x → length x.cells ≤ 33554432
+    → k.matrix.rows * x.cols ≤ 33554432 → IsRunOf p (k.buffers ++ x.cells ∷ []) lists steps → IsProduct k x lists
+is-product p k x lists steps right f few_factors few r =
     let g = gives p k x right f few_factors few in
-    let both : Gave lists r.steps ≡ Gave (g.cells ∷ []) g.steps = sym r.gives ∙ (ap (λ (bs : List (List ℤ)). run p (bs ++ x.cells ∷ [])) f.built ∙ g.gives) in
+    let both : Gave lists steps ≡ Gave (g.cells ∷ []) g.steps = sym r ∙ (ap (λ (bs : List (List ℤ)). run p (bs ++ x.cells ∷ [])) f.built ∙ g.gives) in
     let same : lists ≡ g.cells ∷ [] = ap lists_of both in
     subst (λ (ls : List (List ℤ)). IsProduct k x ls) (sym same) record { one = refl; dense = g.dense }
 

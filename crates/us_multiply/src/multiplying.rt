@@ -23,7 +23,7 @@ pub struct KernelRun {
     pub dense: Dense,
     /// The program whose run made its cells.
     pub code: Verified,
-    /// How many steps the run took, or 18446744073709551615 where there were more.
+    /// How many steps the run took.
     pub steps: u64,
 }
 
