@@ -28,3 +28,5 @@ mod queries;
 mod runs;
 #[cfg(test)]
 mod samples;
+#[cfg(test)]
+mod smallest;

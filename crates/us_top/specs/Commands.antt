@@ -16,6 +16,8 @@ pub data Command : Type 0 where
   Convert : List ℕ → List ℕ → List ℕ → List ℕ → Option (List ℕ) → Command
   Run : List ℕ → List ℕ → List ℕ → ℕ → Command  -- the names of the code, of the input and of the output, and the most steps
   Info : List ℕ → Command  -- the name of the input
+  Advise : List ℕ → List ℕ → List ℕ → Command  -- the names of the library and of the input, and the chain of formats
+  Blocks : List ℕ → List ℕ → Command  -- the names of the input and of the output
   Generate : ℕ → ℕ → Shape → List ℕ → List ℕ → Command  -- a seed, a number of triples, a shape, the chain of formats, and the name of the library
   -- whether the operand is a vector, the names of the library and of the input, the chain of formats, and the names of the operand, of the output and of the
   -- listing, if one is wanted
@@ -79,6 +81,14 @@ info_of _ = None
 abbrev pub names_formats : List ℕ → Bool
 names_formats chain = is_chain chain && not (ends_in_text chain)
 
+abbrev pub advise_of : List (List ℕ) → Option Command
+advise_of (formats ∷ input ∷ chain ∷ []) = if names_formats chain then Some (Advise formats input chain) else None
+advise_of _ = None
+
+abbrev pub blocks_of : List (List ℕ) → Option Command
+blocks_of (input ∷ output ∷ []) = Some (Blocks input output)
+blocks_of _ = None
+
 abbrev pub product_of : Bool → List (List ℕ) → Option Command
 product_of vector (formats ∷ input ∷ chain ∷ operand ∷ output ∷ listing ∷ []) =
     if names_formats chain then Some (Product vector formats input chain operand output (listing_of listing)) else None
@@ -109,7 +119,9 @@ generate_of _ = None
 -- the words behind a name, by the name
 abbrev pub named : List ℕ → List (List ℕ) → Option Command
 named name words =
-    if bytes_eq name (codes "canon") then canon_of words
+    if bytes_eq name (codes "advise") then advise_of words
+    else if bytes_eq name (codes "blocks") then blocks_of words
+    else if bytes_eq name (codes "canon") then canon_of words
     else if bytes_eq name (codes "check") then check_of words
     else if bytes_eq name (codes "convert") then convert_of words
     else if bytes_eq name (codes "run") then run_of words

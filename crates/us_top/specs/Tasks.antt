@@ -15,7 +15,9 @@ use Rattle.us_journeys.specs.Converting.{written}
 use Rattle.us_journeys.specs.Hops.{Hop, IsListingOf, LeadThrough, hop_lines}
 use Rattle.us_generate.specs.Generating.{generate_task}
 use Rattle.us_products.specs.Tasks.{product_task}
-use Rattle.us_top.specs.Commands.{Command, Canon, Check, Convert, Run, Info, Compile, Generate, Product}
+use Rattle.us_smallest.specs.Blocking.{blocks_task}
+use Rattle.us_smallest.specs.Comparing.{advise_task}
+use Rattle.us_top.specs.Commands.{Command, Advise, Blocks, Canon, Check, Convert, Run, Info, Compile, Generate, Product}
 use Rattle.us_top.specs.Running.{Made, run_in, unit_at}
 use Rattle.us_top.specs.Compiling.{IsUnitOfPair, pair_in}
 use Rattle.us_top.specs.Report.{report}
@@ -118,5 +120,7 @@ task_of (Convert formats input chain output listing) = convert_task formats inpu
 task_of (Run code input output budget) = run_task code input output budget
 task_of (Info input) = info_task input
 task_of (Compile formats shape source target output) = compile_task formats shape source target output
+task_of (Advise formats input chain) = advise_task formats input chain
+task_of (Blocks input output) = blocks_task input output
 task_of (Generate seed count shape chain formats) = generate_task seed shape count chain formats
 task_of (Product vector formats input chain operand output listing) = product_task vector formats input chain operand output listing

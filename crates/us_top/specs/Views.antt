@@ -14,7 +14,7 @@ use Rattle.us_unit.specs.Units.{PlainUnit}
 use Rattle.us_top.specs.declared.target.Target.{Target}
 use Rattle.us_top.specs.declared.result.Made as making
 use Rattle.us_top.specs.declared.command.Command.{Command}
-use Rattle.us_top.specs.declared.command.Command.TheVariants.{Canon, Check, Convert, Run, Info, Compile, Generate, Product}
+use Rattle.us_top.specs.declared.command.Command.TheVariants.{Advise, Blocks, Canon, Check, Convert, Run, Info, Compile, Generate, Product}
 
 abbrev pub shape_view : code.Shape → Shape
 shape_view s = record { rows = s.rows; cols = s.cols }
@@ -26,6 +26,8 @@ command_view (Convert formats input chain output listing) = commands.Convert for
 command_view (Run code input output budget) = commands.Run code.now input.now output.now budget
 command_view (Info input) = commands.Info input.now
 command_view (Compile formats shape source target output) = commands.Compile formats.now (shape_view shape) source.now target.now output.now
+command_view (Advise formats input chain) = commands.Advise formats.now input.now chain.now
+command_view (Blocks input output) = commands.Blocks input.now output.now
 command_view (Generate seed count shape chain formats) = commands.Generate seed count (shape_view shape) chain.now formats.now
 command_view (Product vector formats input chain operand output listing) =
     commands.Product vector formats.now input.now chain.now operand.now output.now (option_map (λ l. l.now) listing)
@@ -38,6 +40,8 @@ IsProper (Convert formats input chain output listing) = is_chain chain.now ≡ t
 IsProper (Run code input output budget) = Unit {0}
 IsProper (Info input) = Unit {0}
 IsProper (Compile formats shape source target output) = IsSide shape.rows × IsSide shape.cols
+IsProper (Advise formats input chain) = is_chain chain.now ≡ true
+IsProper (Blocks input output) = Unit {0}
 IsProper (Generate seed count shape chain formats) = (count ≤ 8388608) × (IsSide shape.rows × IsSide shape.cols) × (is_chain chain.now ≡ true)
 IsProper (Product vector formats input chain operand output listing) = is_chain chain.now ≡ true
 

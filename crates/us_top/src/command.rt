@@ -2,7 +2,7 @@
 ghost use Rattle.std.specs.Prelude.{◌≡◌, ◌<◌, ◌≤◌, ◌^◌, Some, None, IfSome, MatchOption, true};
 ghost use Rattle.std.specs.Option.{option_map};
 ghost use Rattle.us_matrix.specs.Map.{IsSide};
-ghost use Rattle.us_top.specs.Commands.{texts, command_of, canon_of, check_of, compile_of, convert_of, listing_of, run_of, info_of, product_of, names_formats, generate_of, seed_of, count_of, side_of, budget_of};
+ghost use Rattle.us_top.specs.Commands.{texts, command_of, canon_of, check_of, compile_of, convert_of, listing_of, run_of, info_of, product_of, advise_of, blocks_of, names_formats, generate_of, seed_of, count_of, side_of, budget_of};
 ghost use Rattle.us_inputs.specs.Chains.{is_chain};
 ghost use Rattle.us_top.specs.Views.{Says};
 
@@ -13,6 +13,17 @@ use us_mm::number_of;
 /// What the words of a command line ask for.
 #[derive(Clone, Copy)]
 pub enum Command<'a> {
+    /// Compare the sizes of a matrix in formats of a library.
+    Advise {
+        formats: &'a str,
+        input: &'a str,
+        chain: &'a str,
+    },
+    /// Find the blocks in which a matrix is smallest, and keep their declaration.
+    Blocks {
+        input: &'a str,
+        output: &'a str,
+    },
     /// Write a matrix file anew, in canonical text.
     Canon {
         input: &'a str,
@@ -78,6 +89,8 @@ pub fn command_of(words: &[String]) -> Option<Command<'_>>
 {
     let (name, words) = words.split_first()?;
     match name.as_str() {
+        "advise" => advise_of(words),
+        "blocks" => blocks_of(words),
         "canon" => canon_of(words),
         "check" => check_of(words),
         "convert" => convert_of(words),
@@ -240,6 +253,34 @@ fn count_of(word: &str) -> Option<u32>
         return None;
     }
     Some(number as u32)
+}
+
+fn advise_of(words: &[String]) -> Option<Command<'_>>
+    ensures { Says result (advise_of (texts words.now)) }
+{
+    let [formats, input, chain] = words else {
+        return None;
+    };
+    if !names_formats(chain.as_str()) {
+        return None;
+    }
+    Some(Command::Advise {
+        formats: formats.as_str(),
+        input: input.as_str(),
+        chain: chain.as_str(),
+    })
+}
+
+fn blocks_of(words: &[String]) -> Option<Command<'_>>
+    ensures { Says result (blocks_of (texts words.now)) }
+{
+    let [input, output] = words else {
+        return None;
+    };
+    Some(Command::Blocks {
+        input: input.as_str(),
+        output: output.as_str(),
+    })
 }
 
 fn product_of(vector: bool, words: &[String]) -> Option<Command<'_>>

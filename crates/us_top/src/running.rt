@@ -17,6 +17,7 @@ use us_generate::generate;
 use us_outside::Outside;
 use us_parse::library_answers_mean;
 use us_products::product;
+use us_smallest::{advise, blocks};
 use us_status::Status;
 
 /// Does what the words say, over the outside, and answers how it went.
@@ -36,6 +37,14 @@ pub fn run<O: Outside>(alloc: Global, words: &[String], outside: &mut O) -> Stat
     us_code_table::laws::answers_mean();
     match command_of(words) {
         None => Status::Words,
+        Some(
+            Command::Advise {
+                formats,
+                input,
+                chain,
+            },
+        ) => advise(alloc, outside, formats, input, chain),
+        Some(Command::Blocks { input, output }) => blocks(alloc, outside, input, output),
         Some(Command::Canon { input, output }) => canon(alloc, outside, input, output),
         Some(Command::Check { formats, shape }) => check(alloc, outside, formats, shape),
         Some(

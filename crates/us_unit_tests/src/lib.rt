@@ -1,5 +1,5 @@
-//! What no clause says of one crate alone: loop code and its texts, expressions, regions of cells and the outside, with
-//! the answers that were worked out by hand. Tests over whole files and commands stand in `us_tests`.
+//! What no clause says of one crate alone: loop code and its texts, expressions, regions of cells, scripts of changes and the
+//! outside, with the answers that were worked out by hand. Tests over whole files and commands stand in `us_tests`.
 #![tactic(auto)]
 
 #[cfg(test)]
@@ -12,3 +12,5 @@ mod expressions;
 mod outside;
 #[cfg(test)]
 mod regions;
+#[cfg(test)]
+mod scripts;

@@ -27,3 +27,9 @@ returns-in-Some-Generate-clause-grammar g c = all_are_read c.library_answers_mea
 
 pub returns-in-Some-Product-clause-grammar : goal.returns-in-Some-Product-clause-grammar
 returns-in-Some-Product-clause-grammar g c = all_are_read c.library_answers_mean.ensures c.answers_mean.ensures c.answers_mean-2.ensures
+
+pub returns-in-Some-Advise-clause-grammar : goal.returns-in-Some-Advise-clause-grammar
+returns-in-Some-Advise-clause-grammar g c = all_are_read c.library_answers_mean.ensures c.answers_mean.ensures c.answers_mean-2.ensures
+
+pub returns-in-Some-Blocks-clause-grammar : goal.returns-in-Some-Blocks-clause-grammar
+returns-in-Some-Blocks-clause-grammar g c = all_are_read c.library_answers_mean.ensures c.answers_mean.ensures c.answers_mean-2.ensures

@@ -1,0 +1,4 @@
+pub mod Blocking
+pub mod Comparing
+pub mod Tables
+pub mod Views
